@@ -13,8 +13,8 @@ mod PutLemmas
 mod ReadLemmas
 mod ReadingLemmas
 mod RunLemmas
-mod ScriptLemmas
 mod StatusLemmas
 mod StoryLemmas
 mod SummaryLemmas
 mod TaleLemmas
+mod WithinLemmas

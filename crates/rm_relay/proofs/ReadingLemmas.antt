@@ -1,15 +1,16 @@
 -- A line of a relay's script is read exactly as the grammar says.
-use Rattle.std.proofs.Common.{◌≡◌, ◌≢◌, ℕ, ◌==◌, ◌^◌, ◌<◌, Bool, true, false, List, [], ◌∷◌, ◌++◌, refl, sym, ap}
-use Rattle.std.proofs.Common.{◌∙◌, arith, subst, inl, inr, codes, decimal, Option, None, Some, if◌then◌else◌}
-use Rattle.std.specs.Prelude.{option_map}
+use Rattle.std.proofs.Common.{◌≡◌, ℕ, ◌==◌, ◌^◌, ◌<◌, Bool, true, false, List, [], ◌∷◌, ◌++◌, refl, sym, ap}
+use Rattle.std.proofs.Common.{◌∙◌, arith, subst, inl, inr, codes, Option, None, Some, if◌then◌else◌}
 use Rattle.std.proofs.lemmas.Bool.{eqb-true}
 use Rattle.std.proofs.lemmas.List.{append-nil}
-use Rattle.rm_script.specs.Script.{IsNumber, side_text, spaced}
-use Rattle.rm_script.specs.Reading.{behind, behind_word, is_blank, is_same, number_in, text_behind, text_in, word_of}
+use Rattle.rm_script.specs.Script.{IsNumber, spaced}
+use Rattle.rm_script.specs.Reading.{behind, behind_word, choose, is_blank, is_same, number_in, text_behind, text_in}
+use Rattle.rm_script.specs.Reading.{word_of}
 use Rattle.rm_script.specs.declared.event.Side.TheVariants as side
-use Rattle.rm_script.specs.WordLemmas.{behind-is, behind_word-onto, decimal-IsWord, is_same-is, number_in-decimal}
-use Rattle.rm_script.specs.WordLemmas.{number_in-is, some_mapped, some_then, word_of-behind, word_of-onto}
-use Rattle.rm_relay.specs.Reading.{arm_in, choose, close_in, compact_in, crash_in, create_in, deliver_in, end_in}
+use Rattle.rm_script.specs.WordLemmas.{behind-is, is_blank-is, is_same-is, number_in-decimal, number_in-is, said_by}
+use Rattle.rm_script.specs.WordLemmas.{some_mapped, some_then, text_behind-text, text_in-is, word_of-behind}
+use Rattle.rm_script.specs.WordLemmas.{word_of-number}
+use Rattle.rm_relay.specs.Reading.{arm_in, close_in, compact_in, crash_in, create_in, deliver_in, end_in}
 use Rattle.rm_relay.specs.Reading.{event_in, mishap_in, numbered_in, request_in, send_in, station_in, tick_in}
 use Rattle.rm_relay.specs.Reading.{with_none, word_in}
 use Rattle.rm_relay.specs.Script.{Says, station_text}
@@ -20,19 +21,6 @@ use Rattle.relay_word.specs.declared.station.Station.{Station}
 use Rattle.relay_word.specs.declared.station.Station.TheVariants.{One, Two, Three}
 
 -- ---- what the grammar says is read
-
-text_in-some : (text : List ℕ) → text ≢ [] → text_in text ≡ Some text
-text_in-some [] h = absurd (h refl)
-text_in-some (b ∷ text) h = refl
-
-text_behind-text : (k text : List ℕ) (n : ℕ) → n < 2 ^ 64 → k ≡ decimal n → text ≢ []
-    → text_behind (spaced k text) ≡ Some text
-text_behind-text k text n small is some =
-    rw (is, behind_word-onto (decimal n) (32 ∷ text) (decimal-IsWord n small)) (text_in-some text some)
-
-word_of-number : (k text : List ℕ) (n : ℕ) → n < 2 ^ 64 → k ≡ decimal n → word_of (spaced k text) ≡ decimal n
-word_of-number k text n small is =
-    rw (is, word_of-onto (decimal n) (32 ∷ text) (decimal-IsWord n small)) (append-nil (decimal n))
 
 station_in-text : (at : Station) (rest : List ℕ) → station_in (station_text at ++ rest) ≡ Some (at, rest)
 station_in-text One rest = refl
@@ -74,10 +62,6 @@ event_in-said line (Arm at calls) h = rw (h.2, numbered_in-text 1 1000 calls at 
 event_in-said line (Crash at choice) h = rw (h.2, numbered_in-text 0 3 choice at h.0 (omega arith) h.1) refl
 
 -- ---- what is read is what the grammar says
-
-text_in-is : (bytes text : List ℕ) → text_in bytes ≡ Some text → (text ≢ []) × (bytes ≡ text)
-text_in-is [] text h = absurd (cc)
-text_in-is (b ∷ bytes) text h = let same : b ∷ bytes ≡ text = cc in (λ e. absurd (cc), same)
 
 station_in-is : (bytes : List ℕ) (n : Station × List ℕ) → station_in bytes ≡ Some n
     → bytes ≡ station_text n.0 ++ n.1
@@ -210,33 +194,19 @@ word_in-is line event h = by_tests (is_same line (codes "forward")) (is_same lin
         let same : Trim ≡ event = cc in subst (λ x. Says line x) same (is_same-is line (codes "trim") f)
     by_tests false false e f k = absurd (cc)
 
-said_by : (verb line : List ℕ) (read : List ℕ → Option Event) (other : Option Event) (event : Event)
-    → ((rest : List ℕ) → read rest ≡ Some event → Says (verb ++ rest) event) → (other ≡ Some event → Says line event)
-    → choose (behind verb line) read other ≡ Some event → Says line event
-said_by verb line read other event reads others h =
-    elim (behind verb line) as (λ o. behind verb line ≡ o → choose o read other ≡ Some event → Says line event) [
-      | None ↦ λ e h. others h
-      | Some rest ↦ λ e h. subst (λ l. Says l event) (sym (behind-is verb line rest e)) (reads rest h)
-    ] refl h
-
 mishap_in-is : (line : List ℕ) (event : Event) → mishap_in line ≡ Some event → Says line event
 mishap_in-is line event =
-    said_by (codes "compact ") line compact_in _ event (λ rest. compact_in-is rest event)
-    (said_by (codes "arm ") line arm_in _ event (λ rest. arm_in-is rest event)
-    (said_by (codes "crash ") line crash_in _ event (λ rest. crash_in-is rest event) (word_in-is line event)))
+    said_by Says (codes "compact ") line compact_in _ event (λ rest. compact_in-is rest event)
+    (said_by Says (codes "arm ") line arm_in _ event (λ rest. arm_in-is rest event)
+    (said_by Says (codes "crash ") line crash_in _ event (λ rest. crash_in-is rest event) (word_in-is line event)))
 
 request_in-is : (line : List ℕ) (event : Event) → request_in line ≡ Some event → Says line event
 request_in-is line event =
-    said_by (codes "create ") line create_in _ event (λ rest. create_in-is rest event)
-    (said_by (codes "tick ") line tick_in _ event (λ rest. tick_in-is rest event)
-    (said_by (codes "deliver ") line deliver_in _ event (λ rest. deliver_in-is rest event)
-    (said_by (codes "close ") line close_in _ event (λ rest. close_in-is rest event)
-    (said_by (codes "end ") line end_in _ event (λ rest. end_in-is rest event) (mishap_in-is line event)))))
-
--- a comment begins with #
-is_blank-Says : (line : List ℕ) → is_blank line ≡ true → Says line Nothing
-is_blank-Says [] h = inl refl
-is_blank-Says (b ∷ line) h = let first : b ≡ 35 = eqb-true b 35 h in inr (line, ap (λ x. x ∷ line) first)
+    said_by Says (codes "create ") line create_in _ event (λ rest. create_in-is rest event)
+    (said_by Says (codes "tick ") line tick_in _ event (λ rest. tick_in-is rest event)
+    (said_by Says (codes "deliver ") line deliver_in _ event (λ rest. deliver_in-is rest event)
+    (said_by Says (codes "close ") line close_in _ event (λ rest. close_in-is rest event)
+    (said_by Says (codes "end ") line end_in _ event (λ rest. end_in-is rest event) (mishap_in-is line event)))))
 
 -- a line that is read says that
 pub event_in-is : (line : List ℕ) (event : Event) → event_in line ≡ Some event → Says line event
@@ -244,8 +214,8 @@ event_in-is line event h =
     let read : Bool → Option Event = λ t. if t then Some Nothing
     else choose (behind (codes "send 1 ") line) send_in (request_in line) in
     elim (is_blank line) as (λ t. is_blank line ≡ t → read t ≡ Some event → Says line event) [
-      | true ↦ λ e h. let same : Nothing ≡ event = cc in subst (λ x. Says line x) same (is_blank-Says line e)
-      | false ↦ λ e h. said_by (codes "send 1 ") line send_in _ event (λ rest. send_in-is rest event)
+      | true ↦ λ e h. let same : Nothing ≡ event = cc in subst (λ x. Says line x) same (is_blank-is line e)
+      | false ↦ λ e h. said_by Says (codes "send 1 ") line send_in _ event (λ rest. send_in-is rest event)
           (request_in-is line event) h
     ] refl h
 

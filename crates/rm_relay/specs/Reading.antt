@@ -3,7 +3,7 @@
 use Rattle.std.specs.Prelude.{ℕ, ◌==◌, if◌then◌else◌, List, [], ◌∷◌, codes, Option, Some, None, option_map}
 use Rattle.std.specs.Prelude.{option_and_then}
 use Rattle.rm_base.specs.Limits as limits
-use Rattle.rm_script.specs.Reading.{behind, is_blank, is_same, number_in, text_behind, word_of}
+use Rattle.rm_script.specs.Reading.{behind, choose, is_blank, is_same, number_in, text_behind, word_of}
 use Rattle.rm_script.specs.declared.event.Side.TheVariants as side
 use Rattle.rm_relay.specs.declared.event.Event.{Event}
 use Rattle.rm_relay.specs.declared.event.Event.TheVariants.{Nothing, Create, Send, Forward, Trim, Tick, Deliver, Close}
@@ -69,11 +69,6 @@ arm_in bytes = option_map (λ n. Arm n.0 n.1) (numbered_in 1 1000 bytes)
 -- crash N X
 abbrev pub crash_in : List ℕ → Option Event
 crash_in bytes = option_map (λ n. Crash n.0 n.1) (numbered_in 0 3 bytes)
-
--- what a verb's reader says where the verb stands there, and else another reader
-abbrev pub choose : Option (List ℕ) → (List ℕ → Option Event) → Option Event → Option Event
-choose None read other = other
-choose (Some rest) read other = read rest
 
 -- the lines of one word
 abbrev pub word_in : List ℕ → Option Event

@@ -1,6 +1,7 @@
 -- Scripts of a relay: lines of bytes, each of which says what a node is asked for or what befalls it.
-use Rattle.std.specs.Prelude.{◌≡◌, ◌≢◌, ◌⊎◌, ℕ, ◌-◌, ◌<◌, List, [], ◌∷◌, ◌++◌, codes, slice_get, take, Some}
+use Rattle.std.specs.Prelude.{◌≡◌, ◌≢◌, ◌⊎◌, ℕ, List, [], ◌++◌, codes}
 use Rattle.rm_base.specs.Limits as limits
+use Rattle.rm_script.specs.Said.{AreSaid, IsFirstUnsaid}
 use Rattle.rm_script.specs.Script.{IsNumber, side_text, spaced}
 use Rattle.rm_relay.specs.declared.event.Event.{Event}
 use Rattle.rm_relay.specs.declared.event.Event.TheVariants.{Nothing, Create, Send, Forward, Trim, Tick, Deliver, Close}
@@ -41,16 +42,8 @@ Says line (Crash node choice) = (x : List ℕ) × IsNumber 0 3 x choice × (line
 
 -- each line says its event
 abbrev pub IsScript : List (List ℕ) → List Event → Type 0
-IsScript [] [] = Unit {0}
-IsScript [] (event ∷ events) = ⊥
-IsScript (line ∷ lines) [] = ⊥
-IsScript (line ∷ lines) (event ∷ events) = Says line event × IsScript lines events
+IsScript lines events = AreSaid Says lines events
 
 -- line k, counted from 1, says nothing that a script may say, and those before it are a script
-pub record IsFirstBad (lines : List (List ℕ)) (k : ℕ) : Type 0 where
-  pub from_one : 0 < k
-  pub before : List Event
-  pub script : IsScript (take (k - 1) lines) before
-  pub line : List ℕ
-  pub there : slice_get lines (k - 1) ≡ Some line
-  pub bad : (event : Event) → Says line event → ⊥
+abbrev pub IsFirstBad : List (List ℕ) → ℕ → Type 0
+IsFirstBad lines k = IsFirstUnsaid Says lines k

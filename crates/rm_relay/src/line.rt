@@ -1,6 +1,5 @@
 //! What a line says.
 ghost use Rattle.std.specs.Prelude.{◌≡◌, ◌≤◌, IfOk, IfSome, option_map};
-ghost use Rattle.rm_script.specs.Reading.{is_blank as is_blank_line, is_same as is_same_text};
 ghost use Rattle.rm_relay.specs.Reading.{
   arm_in,
   close_in,
@@ -24,14 +23,9 @@ use relay_word::Station;
 use rm_base::limits::{MOST_PACKETS, MOST_SEQUENCES, NOW_MAX};
 use rm_base::{Blob, Memory};
 use rm_script::Side;
-use rm_script::word::{behind, cut_word, number};
+use rm_script::line::{LAST_CHOICE, MOST_CALLS, is_blank};
+use rm_script::word::{behind, cut_word, is_same, number};
 use std::alloc::Global;
-
-/// The most device calls up to one that fails.
-const MOST_CALLS: u64 = 1000;
-
-/// The last of the ways in which a disk may keep what was not synced.
-const LAST_CHOICE: u64 = 3;
 
 /// The number of a node, and what stands behind it.
 #[derive(Clone, Copy)]
@@ -51,21 +45,6 @@ pub(crate) fn event(alloc: Global, line: &[u8]) -> Result<Option<Event>, Memory>
         return send(alloc, rest);
     }
     Ok(request(line))
-}
-
-fn is_blank(line: &[u8]) -> bool
-    ensures { result ≡ is_blank_line line.now }
-{
-    match line {
-        [] => true,
-        [first, ..] => *first == b'#',
-    }
-}
-
-fn is_same(word: &[u8], other: &[u8]) -> bool
-    ensures { result ≡ is_same_text word.now other.now }
-{
-    word == other
 }
 
 // What the nodes do, but for the sending.

@@ -1,15 +1,13 @@
--- Lines of bytes one after another, and a script as it is read line by line.
-use Rattle.std.proofs.Common.{◌≡◌, ℕ, suc, ◌+◌, ◌-◌, ◌<◌, ◌≤◌, Bool, true, false, cond, not, ◌==◌, List, [], ◌∷◌}
-use Rattle.std.proofs.Common.{◌++◌, length, take, drop, refl, ap, ◌∙◌, arith, append_assoc, slice_get}
+-- Lines of bytes one after another.
+use Rattle.std.proofs.Common.{◌≡◌, ℕ, suc, ◌+◌, ◌<◌, ◌≤◌, Bool, true, false, cond, not, ◌==◌, List, [], ◌∷◌}
+use Rattle.std.proofs.Common.{◌++◌, length, take, drop, refl, ap, ◌∙◌, arith, append_assoc}
 use Rattle.std.proofs.Common.{Some, None}
 use Rattle.std.specs.List.{count_by, position_or_len, position, flat_map, AllByRecursion}
-use Rattle.std.proofs.lemmas.List.{append-nil, take_at, take_all, drop_all}
+use Rattle.std.proofs.lemmas.List.{take_all, drop_all}
 use Rattle.std.proofs.lemmas.Bool.Decides.{nat_tests}
 use Rattle.std.proofs.lemmas.List.Recursion.{is_count_by}
-use Rattle.rm_script.specs.PlaceLemmas.{slice_get-at}
-use Rattle.rm_script.specs.Script.{lines_of, onto_first, Says, IsScript, IsFirstBad}
+use Rattle.rm_script.specs.Script.{lines_of, onto_first}
 use Rattle.rm_script.specs.Lines.{ended, HasNoLf}
-use Rattle.rm_script.specs.declared.event.Event.{Event}
 
 -- where the first LF stands, or the end
 abbrev pub line_end : List ℕ → ℕ
@@ -121,49 +119,3 @@ unfolding count_of_ends
 length-lines_of front last =
     length-ends front last
     ∙ ap (λ n. n + 1) (is_count_by count_of_ends (λ byte. byte == 10) refl (λ x xs. refl) front)
-
--- the first lines were read, and the rest is still to come
-pub record ReadSoFar (lines rest : List (List ℕ)) (events : List Event) : Type 0 where
-  pub before : List (List ℕ)
-  pub parts : lines ≡ before ++ rest
-  pub script : IsScript before events
-
-pub IsScript-push : (lines : List (List ℕ)) (events : List Event) (line : List ℕ) (event : Event)
-    → IsScript lines events → Says line event → IsScript (lines ++ line ∷ []) (events ++ event ∷ [])
-IsScript-push [] [] line event s e = (e, tt)
-IsScript-push [] (a ∷ events) line event s e = absurd s
-IsScript-push (l ∷ lines) [] line event s e = absurd s
-IsScript-push (l ∷ lines) (a ∷ events) line event s e = (s.0, IsScript-push lines events line event s.1 e)
-
-pub IsScript-length : (lines : List (List ℕ)) (events : List Event) → IsScript lines events
-    → length lines ≡ length events
-IsScript-length [] [] s = refl
-IsScript-length [] (a ∷ events) s = absurd s
-IsScript-length (l ∷ lines) [] s = absurd s
-IsScript-length (l ∷ lines) (a ∷ events) s = ap suc (IsScript-length lines events s.1)
-
-pub read_more : (lines rest : List (List ℕ)) (events : List Event) (line : List ℕ) (event : Event)
-    → ReadSoFar lines (line ∷ rest) events → Says line event → ReadSoFar lines rest (events ++ event ∷ [])
-read_more lines rest events line event r e = record {
-  before = r.before ++ line ∷ [];
-  parts = rw append_assoc r.parts;
-  script = IsScript-push r.before events line event r.script e;
-}
-
-pub read_all : (lines : List (List ℕ)) (events : List Event) → ReadSoFar lines [] events → IsScript lines events
-read_all lines events r = rw (r.parts, append-nil) r.script
-
--- the line at which reading stops is the first bad one
-pub read_bad : (lines rest : List (List ℕ)) (events : List Event) (line : List ℕ) → ReadSoFar lines (line ∷ rest) events
-    → ((event : Event) → Says line event → ⊥) → IsFirstBad lines (length events + 1)
-read_bad lines rest events line r bad =
-    let len : length r.before ≡ length events = IsScript-length r.before events r.script in
-    let n : length events + 1 - 1 ≡ length r.before = omega arith in
-    record {
-      from_one = omega arith;
-      before = events;
-      script = rw (n, r.parts, take_at r.before (line ∷ rest) (length r.before) refl) r.script;
-      line = line;
-      there = rw (n, r.parts) (slice_get-at r.before line rest);
-      bad = bad;
-    }

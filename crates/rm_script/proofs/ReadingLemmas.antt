@@ -3,7 +3,6 @@ use Rattle.std.proofs.Common.{◌≡◌, ◌≢◌, ℕ, ◌^◌, ◌<◌, Bool,
 use Rattle.std.proofs.Common.{◌∙◌, arith, subst, inl, inr, codes, decimal, Option, None, Some, Ok, Err}
 use Rattle.std.proofs.Common.{if◌then◌else◌, Result}
 use Rattle.std.specs.Prelude.{option_and_then}
-use Rattle.std.proofs.lemmas.Bool.{eqb-true}
 use Rattle.std.proofs.lemmas.List.{append-nil}
 use Rattle.hex.specs.Hex.{decode_of}
 use Rattle.hex.specs.declared.error.FromHexError.{FromHexError}
@@ -16,7 +15,7 @@ use Rattle.rm_script.specs.Reading.{numbered_in, offer_in, create_with, create_b
 use Rattle.rm_script.specs.Reading.{text_behind, send_in, tick_in, deliver_in, close_in, end_in, arm_in, crash_in}
 use Rattle.rm_script.specs.Reading.{ask_in, nack_in, with_none, alone_in, poll_in, compact_in, polled_by, polled_in}
 use Rattle.rm_script.specs.Reading.{number_behind, consume_in}
-use Rattle.rm_script.specs.Reading.{some_bytes, noise_in, choose, mishap_in, request_in, is_blank, event_in}
+use Rattle.rm_script.specs.Reading.{some_bytes, noise_in, mishap_in, request_in, is_blank, event_in}
 use Rattle.rm_script.specs.declared.event.Side.{Side}
 use Rattle.rm_script.specs.declared.event.Side.TheVariants.{One, Two}
 use Rattle.rm_script.specs.declared.event.Event.{Event}
@@ -25,14 +24,11 @@ use Rattle.rm_script.specs.declared.event.Event.TheVariants.{Ask, Nack, Poll, Co
 use Rattle.rm_script.specs.declared.event.Event.TheVariants.{Arm, Crash, Noise}
 use Rattle.rm_script.specs.WordLemmas.{some_then, some_mapped, behind-is, word_of-onto, behind_word-onto}
 use Rattle.rm_script.specs.WordLemmas.{word_of-behind, word_of-IsWord, number_in-decimal, number_in-is, decimal-IsWord}
-use Rattle.rm_script.specs.WordLemmas.{behaviour_in-word, behaviour_in-is, node_in-text, node_in-is, call_in-text}
-use Rattle.rm_script.specs.WordLemmas.{call_in-is, numbered_in-text, numbered_in-is}
+use Rattle.rm_script.specs.WordLemmas.{word_of-number, text_in-some, text_in-is, text_behind-text, behaviour_in-word}
+use Rattle.rm_script.specs.WordLemmas.{behaviour_in-is, node_in-text, node_in-is, call_in-text, call_in-is}
+use Rattle.rm_script.specs.WordLemmas.{numbered_in-text, numbered_in-is, is_blank-is, said_by}
 
 -- ---- what the grammar says is read
-
-text_in-some : (text : List ℕ) → text ≢ [] → text_in text ≡ Some text
-text_in-some [] h = absurd (h refl)
-text_in-some (b ∷ text) h = refl
 
 offer_in-offer : (words : List ℕ) (offer : Option Behaviour) → IsOffer words offer → offer_in words ≡ Some offer
 offer_in-offer words None h = rw h refl
@@ -100,15 +96,6 @@ create_behind-wish side words expires polled offer w =
           (create_with-words side expires w.marked w.offered polled offer w.polled_ w.offers_)
     ]
 
-text_behind-text : (k text : List ℕ) (n : ℕ) → n < 2 ^ 64 → k ≡ decimal n → text ≢ []
-    → text_behind (spaced k text) ≡ Some text
-text_behind-text k text n small is some =
-    rw (is, behind_word-onto (decimal n) (32 ∷ text) (decimal-IsWord n small)) (text_in-some text some)
-
-word_of-number : (k text : List ℕ) (n : ℕ) → n < 2 ^ 64 → k ≡ decimal n → word_of (spaced k text) ≡ decimal n
-word_of-number k text n small is =
-    rw (is, word_of-onto (decimal n) (32 ∷ text) (decimal-IsWord n small)) (append-nil (decimal n))
-
 number_behind-text : (k m : List ℕ) (n upto : ℕ) → n < 2 ^ 64 → k ≡ decimal n → upto < 2 ^ 64
     → IsNumber 1 9223372036854775807 m upto → number_behind (behind_word (spaced k m)) ≡ Some upto
 number_behind-text k m n upto small is most number =
@@ -166,10 +153,6 @@ event_in-said line (Noise side bytes) h =
     rw (h.3, call_in-text side h.0, h.2, text_in-some bytes h.1) refl
 
 -- ---- what is read is what the grammar says
-
-text_in-is : (bytes text : List ℕ) → text_in bytes ≡ Some text → (text ≢ []) × (bytes ≡ text)
-text_in-is [] text h = absurd (cc)
-text_in-is (b ∷ bytes) text h = let same : b ∷ bytes ≡ text = cc in (λ e. absurd (cc), same)
 
 offer_in-is : (words : List ℕ) (offer : Option Behaviour) → offer_in words ≡ Some offer → IsOffer words offer
 offer_in-is [] offer h = let same : None ≡ offer = cc in subst (λ o. IsOffer [] o) same refl
@@ -379,49 +362,34 @@ noise_in-is bytes event h =
     subst (λ e. Says (codes "noise " ++ bytes) e) found.2
     (call.0.1, is.0, is.1, ap (λ l. codes "noise " ++ l) (call_in-is bytes call.0 call.1))
 
--- a verb that stands there is read, or another one
-said_by : (verb line : List ℕ) (read : List ℕ → Option Event) (other : Option Event) (event : Event)
-    → ((rest : List ℕ) → read rest ≡ Some event → Says (verb ++ rest) event) → (other ≡ Some event → Says line event)
-    → choose (behind verb line) read other ≡ Some event → Says line event
-said_by verb line read other event reads others h =
-    elim (behind verb line) as (λ o. behind verb line ≡ o → choose o read other ≡ Some event → Says line event) [
-      | None ↦ λ e h. others h
-      | Some rest ↦ λ e h. subst (λ l. Says l event) (sym (behind-is verb line rest e)) (reads rest h)
-    ] refl h
-
 mishap_in-is : (line : List ℕ) (event : Event) → mishap_in line ≡ Some event → Says line event
 mishap_in-is line event =
-    said_by (codes "deliver ") line deliver_in _ event (λ rest. deliver_in-is rest event)
-    (said_by (codes "arm ") line arm_in _ event (λ rest. arm_in-is rest event)
-    (said_by (codes "crash ") line crash_in _ event (λ rest. crash_in-is rest event)
-    (said_by (codes "noise ") line noise_in None event (λ rest. noise_in-is rest event) (λ h. absurd (cc)))))
+    said_by Says (codes "deliver ") line deliver_in _ event (λ rest. deliver_in-is rest event)
+    (said_by Says (codes "arm ") line arm_in _ event (λ rest. arm_in-is rest event)
+    (said_by Says (codes "crash ") line crash_in _ event (λ rest. crash_in-is rest event)
+    (said_by Says (codes "noise ") line noise_in None event (λ rest. noise_in-is rest event) (λ h. absurd (cc)))))
 
 request_in-is : (line : List ℕ) (event : Event) → request_in line ≡ Some event → Says line event
 request_in-is line event =
-    said_by (codes "create ") line create_in _ event (λ rest. create_in-is rest event)
-    (said_by (codes "grant ") line grant_in _ event (λ rest. grant_in-is rest event)
-    (said_by (codes "send ") line send_in _ event (λ rest. send_in-is rest event)
-    (said_by (codes "tick ") line tick_in _ event (λ rest. tick_in-is rest event)
-    (said_by (codes "close ") line close_in _ event (λ rest. close_in-is rest event)
-    (said_by (codes "end ") line end_in _ event (λ rest. end_in-is rest event)
-    (said_by (codes "ask ") line ask_in _ event (λ rest. ask_in-is rest event)
-    (said_by (codes "nack ") line nack_in _ event (λ rest. nack_in-is rest event)
-    (said_by (codes "poll ") line poll_in _ event (λ rest. poll_in-is rest event)
-    (said_by (codes "compact ") line compact_in _ event (λ rest. compact_in-is rest event)
-    (said_by (codes "consume ") line consume_in _ event (λ rest. consume_in-is rest event)
+    said_by Says (codes "create ") line create_in _ event (λ rest. create_in-is rest event)
+    (said_by Says (codes "grant ") line grant_in _ event (λ rest. grant_in-is rest event)
+    (said_by Says (codes "send ") line send_in _ event (λ rest. send_in-is rest event)
+    (said_by Says (codes "tick ") line tick_in _ event (λ rest. tick_in-is rest event)
+    (said_by Says (codes "close ") line close_in _ event (λ rest. close_in-is rest event)
+    (said_by Says (codes "end ") line end_in _ event (λ rest. end_in-is rest event)
+    (said_by Says (codes "ask ") line ask_in _ event (λ rest. ask_in-is rest event)
+    (said_by Says (codes "nack ") line nack_in _ event (λ rest. nack_in-is rest event)
+    (said_by Says (codes "poll ") line poll_in _ event (λ rest. poll_in-is rest event)
+    (said_by Says (codes "compact ") line compact_in _ event (λ rest. compact_in-is rest event)
+    (said_by Says (codes "consume ") line consume_in _ event (λ rest. consume_in-is rest event)
     (mishap_in-is line event)))))))))))
-
--- a comment begins with #
-is_blank-Says : (line : List ℕ) → is_blank line ≡ true → Says line Nothing
-is_blank-Says [] h = inl refl
-is_blank-Says (b ∷ line) h = let first : b ≡ 35 = eqb-true b 35 h in inr (line, ap (λ x. x ∷ line) first)
 
 -- a line that is read says that
 pub event_in-is : (line : List ℕ) (event : Event) → event_in line ≡ Some event → Says line event
 event_in-is line event h =
     let read : Bool → Option Event = λ t. if t then Some Nothing else request_in line in
     elim (is_blank line) as (λ t. is_blank line ≡ t → read t ≡ Some event → Says line event) [
-      | true ↦ λ e h. let same : Nothing ≡ event = cc in subst (λ x. Says line x) same (is_blank-Says line e)
+      | true ↦ λ e h. let same : Nothing ≡ event = cc in subst (λ x. Says line x) same (is_blank-is line e)
       | false ↦ λ e h. request_in-is line event h
     ] refl h
 

@@ -1,23 +1,8 @@
--- A script is read in one way, and has no bad line.
-use Rattle.std.proofs.Common.{◌≡◌, ℕ, zero, suc, ◌-◌, List, [], ◌∷◌, refl, slice_get, Some, subst}
+-- A script is read in one way.
+use Rattle.std.proofs.Common.{◌≡◌, ℕ, List, [], ◌∷◌, refl}
 use Rattle.rm_script.specs.declared.event.Event.{Event}
-use Rattle.rm_script.specs.Script.{Says, IsScript, IsFirstBad}
+use Rattle.rm_script.specs.Script.{IsScript}
 use Rattle.rm_script.proofs.ReadingLemmas.{Says-one}
-
--- each line of a script says something
-IsScript-at : (lines : List (List ℕ)) (events : List Event) (i : ℕ) (line : List ℕ) → IsScript lines events
-    → slice_get lines i ≡ Some line → (event : Event) × Says line event
-IsScript-at [] events i line s e = absurd (cc)
-IsScript-at (l ∷ lines) [] i line s e = absurd s
-IsScript-at (l ∷ lines) (x ∷ events) zero line s e =
-    let same : l ≡ line = cc in (x, subst (λ m. Says m x) same s.0)
-IsScript-at (l ∷ lines) (x ∷ events) (suc i) line s e = IsScript-at lines events i line s.1 e
-
--- a script has no bad line
-pub IsFirstBad-none : (lines : List (List ℕ)) (events : List Event) (k : ℕ)
-    → IsScript lines events → IsFirstBad lines k → ⊥
-IsFirstBad-none lines events k s bad =
-    let said = IsScript-at lines events (k - 1) bad.line s bad.there in bad.bad said.0 said.1
 
 -- a script is read in one way
 pub IsScript-one : (lines : List (List ℕ)) (a b : List Event) → IsScript lines a → IsScript lines b → a ≡ b

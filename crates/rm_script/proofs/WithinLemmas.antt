@@ -1,14 +1,13 @@
 -- What a script says is within its limits.
-use Rattle.std.proofs.Common.{◌≡◌, ℕ, ◌≤◌, Bool, true, false, ◌==◌, ◌&&◌, nat_le, List, [], ◌∷◌, refl, sym, arith}
+use Rattle.std.proofs.Common.{◌≡◌, ℕ, ◌≤◌, Bool, true, false, ◌==◌, ◌&&◌, nat_le, List, refl, sym, arith}
 use Rattle.std.proofs.Common.{Option, None, Some, if◌then◌else◌, subst, inl, inr}
-use Rattle.std.specs.List.{AllByRecursion}
 use Rattle.std.proofs.lemmas.Bool.{and_parts}
 use Rattle.std.proofs.lemmas.Bool.Decides.{nat_tests}
 use Rattle.rm_elements.specs.Duration.{duration_in, span_in, lapse_from, at_least_one}
 use Rattle.rm_elements.specs.Writable.{IsLapseWritable}
 use Rattle.rm_elements.specs.declared.duration.Span.{Span}
 use Rattle.rm_base.specs.declared.lapse.Lapse.{Lapse}
-use Rattle.rm_script.specs.Script.{IsExpiry, Says, IsScript}
+use Rattle.rm_script.specs.Script.{IsExpiry, Says}
 use Rattle.rm_script.specs.Within.{IsWithin}
 use Rattle.rm_script.specs.declared.event.Event.{Event}
 use Rattle.rm_script.specs.declared.event.Event.TheVariants.{Nothing, Create, Grant, Send, Tick, Deliver, Close, End}
@@ -49,7 +48,8 @@ expiry-within words expires (inl h) =
     subst (λ l. IsLapseWritable l) (sym h.1) (record { months = omega arith; ms = omega arith })
 expiry-within words expires (inr h) = duration_in-within h.0 expires h.2
 
-Says-IsWithin : (line : List ℕ) (event : Event) → Says line event → IsWithin event
+-- what a line says is within the limits
+pub Says-IsWithin : (line : List ℕ) (event : Event) → Says line event → IsWithin event
 Says-IsWithin line Nothing h = tt
 Says-IsWithin line (Create side expires polled offer) h =
     let w = h.1 in expiry-within w.expiry expires w.expires_
@@ -67,12 +67,3 @@ Says-IsWithin line (Consume side seq upto) h = ((h.2.0, h.2.1), (h.3.0, h.3.1))
 Says-IsWithin line (Arm side calls) h = (h.1.0, h.1.1)
 Says-IsWithin line (Crash side choice) h = h.1.1
 Says-IsWithin line (Noise side bytes) h = h.1
-
--- all events of a script are within the limits
-pub IsScript-IsWithin : (lines : List (List ℕ)) (events : List Event) → IsScript lines events
-    → AllByRecursion IsWithin events
-IsScript-IsWithin [] [] h = tt
-IsScript-IsWithin [] (event ∷ events) h = absurd h
-IsScript-IsWithin (line ∷ lines) [] h = absurd h
-IsScript-IsWithin (line ∷ lines) (event ∷ events) h =
-    (Says-IsWithin line event h.0, IsScript-IsWithin lines events h.1)

@@ -1,7 +1,9 @@
 pub mod Bytes
 pub mod Lines
 pub mod Reading
+pub mod Said
 pub mod Script
 pub mod Within
 pub mod PlaceLemmas
+pub mod SaidLemmas
 pub mod WordLemmas

@@ -195,7 +195,7 @@ noise_in bytes =
 -- ---- lines
 
 -- what a verb's reader says where the verb stands there, and else another reader
-abbrev pub choose : Option (List ℕ) → (List ℕ → Option Event) → Option Event → Option Event
+abbrev pub choose : {E : Type 0} → Option (List ℕ) → (List ℕ → Option E) → Option E → Option E
 choose None read other = other
 choose (Some rest) read other = read rest
 

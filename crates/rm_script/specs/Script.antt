@@ -1,6 +1,6 @@
 -- Scripts: lines of bytes, each of which says what a node is asked for or what befalls it.
-use Rattle.std.specs.Prelude.{◌≡◌, ◌≢◌, ℕ, ◌-◌, ◌<◌, ◌≤◌, ◌==◌, if◌then◌else◌, ◌⊎◌, List, [], ◌∷◌, ◌++◌, slice_get}
-use Rattle.std.specs.Prelude.{take, Bool, true, false, Option, Some, None, Ok, codes, decimal}
+use Rattle.std.specs.Prelude.{◌≡◌, ◌≢◌, ℕ, ◌≤◌, ◌==◌, if◌then◌else◌, ◌⊎◌, List, [], ◌∷◌, ◌++◌, Bool, true, false}
+use Rattle.std.specs.Prelude.{Option, Some, None, Ok, codes, decimal}
 use Rattle.std.specs.List.{AllByRecursion}
 use Rattle.rm_base.specs.Limits as limits
 use Rattle.rm_base.specs.Message.{max_number}
@@ -10,6 +10,7 @@ use Rattle.rm_base.specs.declared.message.Behaviour.TheVariants.{NoDiscard, Enti
 use Rattle.rm_base.specs.declared.lapse.Lapse.{Lapse}
 use Rattle.rm_elements.specs.Duration.{duration_in}
 use Rattle.rm_script.specs.Bytes.{line_feed, space_byte}
+use Rattle.rm_script.specs.Said.{AreSaid, IsFirstUnsaid}
 use Rattle.rm_script.specs.declared.event.Side.{Side}
 use Rattle.rm_script.specs.declared.event.Side.TheVariants.{One, Two}
 use Rattle.rm_script.specs.declared.event.Event.{Event}
@@ -114,16 +115,8 @@ Says line (Noise side bytes) =
 
 -- each line says its event
 abbrev pub IsScript : List (List ℕ) → List Event → Type 0
-IsScript [] [] = Unit {0}
-IsScript [] (event ∷ events) = ⊥
-IsScript (line ∷ lines) [] = ⊥
-IsScript (line ∷ lines) (event ∷ events) = Says line event × IsScript lines events
+IsScript lines events = AreSaid Says lines events
 
 -- line k, counted from 1, says nothing that a script may say, and those before it are a script
-pub record IsFirstBad (lines : List (List ℕ)) (k : ℕ) : Type 0 where
-  pub from_one : 0 < k
-  pub before : List Event
-  pub script : IsScript (take (k - 1) lines) before
-  pub line : List ℕ
-  pub there : slice_get lines (k - 1) ≡ Some line
-  pub bad : (event : Event) → Says line event → ⊥
+abbrev pub IsFirstBad : List (List ℕ) → ℕ → Type 0
+IsFirstBad lines k = IsFirstUnsaid Says lines k

@@ -11,12 +11,13 @@ use Rattle.std.specs.Str.Parse.{digits_value}
 use Rattle.std.proofs.lemmas.Bool.{and_parts, eqb-true, eq-eqb, ne_eqb}
 use Rattle.std.proofs.lemmas.Bool.Decides.{nat_tests}
 use Rattle.std.proofs.lemmas.Fmt.{decimal_is_IsNumeral, digits_decimal}
+use Rattle.std.proofs.lemmas.List.{append-nil}
 use Rattle.std.proofs.lemmas.Str.Parse.{numerals_by_value, tells_all_ascii_digits}
 use Rattle.rm_base.specs.declared.message.Behaviour.{Behaviour}
 use Rattle.rm_base.specs.declared.message.Behaviour.TheVariants.{NoDiscard, EntireSequence, FollowingFirstGap}
 use Rattle.rm_script.specs.Script.{side_text, spaced, IsWord, IsBehaviour, IsNumber}
 use Rattle.rm_script.specs.Reading.{behind, word_of, behind_word, is_same, number_in, behaviour_in, node_in, call_in}
-use Rattle.rm_script.specs.Reading.{numbered_in}
+use Rattle.rm_script.specs.Reading.{numbered_in, text_in, text_behind, is_blank, choose}
 use Rattle.rm_script.specs.declared.event.Side.{Side}
 use Rattle.rm_script.specs.declared.event.Side.TheVariants.{One, Two}
 
@@ -166,6 +167,27 @@ pub decimal-IsWord : (n : ℕ) → n < 2 ^ 64 → IsWord (decimal n)
 decimal-IsWord n h =
     digits_are_word (decimal n) (digits_decimal (numerals_by_value _ tells_all_ascii_digits) n h)
 
+-- the word of a number ends at a space
+pub word_of-number : (k text : List ℕ) (n : ℕ) → n < 2 ^ 64 → k ≡ decimal n → word_of (spaced k text) ≡ decimal n
+word_of-number k text n small is =
+    rw (is, word_of-onto (decimal n) (32 ∷ text) (decimal-IsWord n small)) (append-nil (decimal n))
+
+-- ---- texts
+
+-- a text that isn't empty stands there
+pub text_in-some : (text : List ℕ) → text ≢ [] → text_in text ≡ Some text
+text_in-some [] h = absurd (h refl)
+text_in-some (b ∷ text) h = refl
+
+pub text_in-is : (bytes text : List ℕ) → text_in bytes ≡ Some text → (text ≢ []) × (bytes ≡ text)
+text_in-is [] text h = absurd (cc)
+text_in-is (b ∷ bytes) text h = let same : b ∷ bytes ≡ text = cc in (λ e. absurd (cc), same)
+
+pub text_behind-text : (k text : List ℕ) (n : ℕ) → n < 2 ^ 64 → k ≡ decimal n → text ≢ []
+    → text_behind (spaced k text) ≡ Some text
+text_behind-text k text n small is some =
+    rw (is, behind_word-onto (decimal n) (32 ∷ text) (decimal-IsWord n small)) (text_in-some text some)
+
 -- ---- behaviours
 
 pub behaviour_in-word : (word : List ℕ) (behaviour : Behaviour) → IsBehaviour word behaviour
@@ -251,3 +273,21 @@ numbered_in-is low high bytes n h =
       number = number_in-is low high call.0.1 found.0 found.1;
       text = call_in-is bytes call.0 call.1;
     })
+
+-- ---- a line
+
+-- a blank line is empty, or begins with #
+pub is_blank-is : (line : List ℕ) → is_blank line ≡ true
+    → (line ≡ []) ⊎ ((rest : List ℕ) × (line ≡ codes "#" ++ rest))
+is_blank-is [] h = inl refl
+is_blank-is (b ∷ line) h = let first : b ≡ 35 = eqb-true b 35 h in inr (line, ap (λ x. x ∷ line) first)
+
+-- a verb that stands there is read, or another one
+pub said_by : {E : Type 0} (says : List ℕ → E → Type 0) (verb line : List ℕ) (read : List ℕ → Option E)
+    (other : Option E) (event : E) → ((rest : List ℕ) → read rest ≡ Some event → says (verb ++ rest) event)
+    → (other ≡ Some event → says line event) → choose (behind verb line) read other ≡ Some event → says line event
+said_by says verb line read other event reads others h =
+    elim (behind verb line) as (λ o. behind verb line ≡ o → choose o read other ≡ Some event → says line event) [
+      | None ↦ λ e h. others h
+      | Some rest ↦ λ e h. subst (λ l. says l event) (sym (behind-is verb line rest e)) (reads rest h)
+    ] refl h

@@ -6,7 +6,6 @@ ghost use Rattle.rm_script.specs.Reading.{
   create_with,
   create_in,
   grant_in,
-  text_behind,
   send_in,
   tick_in,
   deliver_in,
@@ -37,10 +36,10 @@ use rm_elements::read_duration;
 use std::alloc::Global;
 
 /// The most device calls up to one that fails.
-const MOST_CALLS: u64 = 1000;
+pub const MOST_CALLS: u64 = 1000;
 
 /// The last of the ways in which a disk may keep what was not synced.
-const LAST_CHOICE: u64 = 3;
+pub const LAST_CHOICE: u64 = 3;
 
 /// What a line says, where it says something that a script may say.
 pub(crate) fn event(alloc: Global, line: &[u8]) -> Result<Option<Event>, Memory>
@@ -52,7 +51,8 @@ pub(crate) fn event(alloc: Global, line: &[u8]) -> Result<Option<Event>, Memory>
     request(alloc, line)
 }
 
-fn is_blank(line: &[u8]) -> bool
+/// Whether a line is empty, or a comment.
+pub fn is_blank(line: &[u8]) -> bool
     ensures { result ≡ is_blank_line line.now }
 {
     match line {

@@ -71,7 +71,8 @@ pub(crate) fn behaviour(word: &[u8]) -> Option<Behaviour>
     None
 }
 
-fn is_same(word: &[u8], other: &[u8]) -> bool
+/// Whether two texts are one.
+pub fn is_same(word: &[u8], other: &[u8]) -> bool
     ensures { result ≡ is_same_text word.now other.now }
 {
     word == other

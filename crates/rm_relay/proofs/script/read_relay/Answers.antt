@@ -1,7 +1,7 @@
 use Rattle.std.proofs.Common.{◌≡◌, ◌+◌, arith, length, subst, sym, ◌∙◌}
+use Rattle.rm_script.specs.SaidLemmas.{read_more, read_bad}
 use Rattle.rm_script.specs.Script.{lines_of}
-use Rattle.rm_relay.specs.Script.{IsFirstBad}
-use Rattle.rm_relay.proofs.ScriptLemmas.{read_more, read_bad}
+use Rattle.rm_relay.specs.Script.{IsFirstBad, Says}
 use Rattle.rm_relay.proofs.ReadingLemmas.{event_in-is, event_in-none}
 use Rattle.rm_relay.proofs.script.read_relay.Goals as goal
 
@@ -9,7 +9,7 @@ pub returns-in-None-clause-bad_line : goal.returns-in-None-clause-bad_line
 returns-in-None-clause-bad_line c = λ line is.
     let read = rw c.first_line.ensures.lines at c.loop-rest.invariant.read in
     let none = event_in-none _ (sym c.in_ok-event.ensures ∙ c.in-None.is) in
-    let bad = read_bad _ _ _ _ read none in
+    let bad = read_bad Says _ _ _ _ read none in
     let same : length c.loop-rest.events.items + 1 ≡ line = cc in
     subst (λ k. IsFirstBad (lines_of c.args.bytes.now) k) same bad
 
@@ -20,6 +20,6 @@ loop-rest-preserved c =
     let pushed = c.in-Ok.ensures.items in
     let room = rw c.first_line.ensures.lines at c.loop-rest.invariant.room in
     record {
-      read = rw pushed (read_more _ _ _ _ _ read said);
+      read = rw pushed (read_more Says _ _ _ _ _ read said);
       room = omega (arith, room, c.in-Ok.ensures.len, c.in-Ok.ensures.capacity);
     }

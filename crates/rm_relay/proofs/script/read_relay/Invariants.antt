@@ -1,11 +1,12 @@
 use Rattle.std.proofs.Common.{◌≤◌, ◌+◌, length, vec_len, vec_capacity}
+use Rattle.rm_script.specs.SaidLemmas.{ReadSoFar}
 use Rattle.rm_script.specs.Script.{lines_of}
-use Rattle.rm_relay.proofs.ScriptLemmas.{ReadSoFar}
+use Rattle.rm_relay.specs.Script.{Says}
 use Rattle.rm_relay.proofs.script.read_relay.Given as goal
 
 abbrev pub invariant-loop-rest : goal.invariant-loop-rest
 invariant-loop-rest l = record {
-  read : ReadSoFar (lines_of l.bytes) (lines_of l.rest) l.events.items;
+  read : ReadSoFar Says (lines_of l.bytes) (lines_of l.rest) l.events.items;
   room : vec_len l.events + length (lines_of l.rest) ≤ vec_capacity l.events;
 }
 
