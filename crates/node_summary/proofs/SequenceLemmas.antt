@@ -20,16 +20,15 @@ use Rattle.node_tables.specs.Kept.{no_maker}
 use Rattle.node_tables.specs.Laws.{IncomingIsAsRecorded, IsAsRecorded, OutgoingIsAsRecorded, is_end, is_shut}
 use Rattle.node_tables.specs.Reads.{incoming_in, incoming_of, outgoing_in, outgoing_of}
 use Rattle.rm_report.specs.Report.{consumed_text, in_text, out_text}
-use Rattle.rm_script.specs.declared.event.Side.{Side}
 use Rattle.node_summary.specs.Summary.{in_phase, incoming_text, items_text, outgoing_text, place}
 use Rattle.node_summary.specs.Summary.{sequence_text, sequences_text}
 
 -- one more sequence
-pub sequences_text-next : (side : Side) (r : List Fact) (now n : ℕ)
-    → sequences_text side r now (n + 1) ≡ sequences_text side r now n ++ sequence_text side r now (n + 1)
-sequences_text-next side r now n =
+pub sequences_text-next : (node : ℕ) (r : List Fact) (now n : ℕ)
+    → sequences_text node r now (n + 1) ≡ sequences_text node r now n ++ sequence_text node r now (n + 1)
+sequences_text-next node r now n =
     let next : suc n ≡ n + 1 = omega arith in
-    subst (λ k. sequences_text side r now k ≡ sequences_text side r now n ++ sequence_text side r now k) next refl
+    subst (λ k. sequences_text node r now k ≡ sequences_text node r now n ++ sequence_text node r now k) next refl
 
 sends : (r : List Fact) (s : ℕ) (t : Sending) (o : Option Maker) → outgoing_of r s o ≡ Some t
     → is_outgoing_side o ≡ true
@@ -89,34 +88,34 @@ same_phase r s now f is =
     ∙ ap (λ b. cond (is_ended r s now) Ended (cond b Closed Open)) (is.over now)
 
 -- the text of a sequence that receives
-abbrev known_text : Side → ℕ → InPhase → Behaviour → List ℕ → List Item → List Item → ℕ → List ℕ
-known_text side s phase behaviour numbers inbox discarded cursor =
-    in_text (place side s) phase behaviour (ranges_onto [] numbers) (length inbox) (length discarded)
-    ++ (consumed_text (place side s) cursor ++ items_text (place side s) 0 inbox)
+abbrev known_text : ℕ → ℕ → InPhase → Behaviour → List ℕ → List Item → List Item → ℕ → List ℕ
+known_text node s phase behaviour numbers inbox discarded cursor =
+    in_text (place node s) phase behaviour (ranges_onto [] numbers) (length inbox) (length discarded)
+    ++ (consumed_text (place node s) cursor ++ items_text (place node s) 0 inbox)
 
-pub outgoing-text : (side : Side) (r : List Fact) (now s : ℕ) (t : Sending) → OutgoingIsAsRecorded
+pub outgoing-text : (node : ℕ) (r : List Fact) (now s : ℕ) (t : Sending) → OutgoingIsAsRecorded
     → outgoing_in r s ≡ Some t
-    → out_text (place side s) t.phase (accepted_count t) t.acked ≡ sequence_text side r now s
-outgoing-text side r now s t law e =
-    ap (λ (u : Sending). out_text (place side s) u.phase (accepted_count u) u.acked) (law r s t e)
-    ∙ ap (λ b. cond b (outgoing_text side r s) (incoming_text side r now s)) (sym (sends r s t (maker r s) e))
+    → out_text (place node s) t.phase (accepted_count t) t.acked ≡ sequence_text node r now s
+outgoing-text node r now s t law e =
+    ap (λ (u : Sending). out_text (place node s) u.phase (accepted_count u) u.acked) (law r s t e)
+    ∙ ap (λ b. cond b (outgoing_text node r s) (incoming_text node r now s)) (sym (sends r s t (maker r s) e))
 
-pub incoming-text : (side : Side) (r : List Fact) (now s : ℕ) (f : Receiving) → IncomingIsAsRecorded
+pub incoming-text : (node : ℕ) (r : List Fact) (now s : ℕ) (f : Receiving) → IncomingIsAsRecorded
     → incoming_in r s ≡ Some f
-    → known_text side s (phase_of f now) f.behaviour (held_in f) (inbox_in f) (discarded_in f) f.cursor
-    ≡ sequence_text side r now s
-incoming-text side r now s f law e =
+    → known_text node s (phase_of f now) f.behaviour (held_in f) (inbox_in f) (discarded_in f) f.cursor
+    ≡ sequence_text node r now s
+incoming-text node r now s f law e =
     let is = law r s f e in
-    ap (λ p. known_text side s p f.behaviour (held_in f) (inbox_in f) (discarded_in f) f.cursor)
+    ap (λ p. known_text node s p f.behaviour (held_in f) (inbox_in f) (discarded_in f) f.cursor)
     (same_phase r s now f is)
-    ∙ ap (λ b. known_text side s (in_phase r s now) b (held_in f) (inbox_in f) (discarded_in f) f.cursor)
+    ∙ ap (λ b. known_text node s (in_phase r s now) b (held_in f) (inbox_in f) (discarded_in f) f.cursor)
     (announced r s f (maker r s) e)
-    ∙ ap (λ ns. known_text side s (in_phase r s now) (behaviour r s) ns (inbox_in f) (discarded_in f) f.cursor)
+    ∙ ap (λ ns. known_text node s (in_phase r s now) (behaviour r s) ns (inbox_in f) (discarded_in f) f.cursor)
     is.numbers
-    ∙ ap (λ items. known_text side s (in_phase r s now) (behaviour r s) (held r s) items (discarded_in f) f.cursor)
+    ∙ ap (λ items. known_text node s (in_phase r s now) (behaviour r s) (held r s) items (discarded_in f) f.cursor)
     is.inbox_
-    ∙ ap (λ items. known_text side s (in_phase r s now) (behaviour r s) (held r s) (inbox r s) items f.cursor)
+    ∙ ap (λ items. known_text node s (in_phase r s now) (behaviour r s) (held r s) (inbox r s) items f.cursor)
     is.discarded_
-    ∙ ap (λ n. known_text side s (in_phase r s now) (behaviour r s) (held r s) (inbox r s) (discarded r s) n)
+    ∙ ap (λ n. known_text node s (in_phase r s now) (behaviour r s) (held r s) (inbox r s) (discarded r s) n)
     is.cursor_
-    ∙ ap (λ b. cond b (outgoing_text side r s) (incoming_text side r now s)) (sym (receives r s f (maker r s) e))
+    ∙ ap (λ b. cond b (outgoing_text node r s) (incoming_text node r now s)) (sym (receives r s f (maker r s) e))

@@ -13,11 +13,10 @@ use node_tables::laws::{an_incoming_sequence_is_as_recorded, an_outgoing_sequenc
 use rm_base::{Blob, Memory, Payload};
 use rm_destination::Incoming;
 use rm_report::{Place, push_consumed, push_in, push_item, push_out};
-use rm_script::Side;
 use rm_source::Outgoing;
 
-/// Appends what a node knows of each of its sequences, at a moment.
-pub fn push_node(out: &mut Blob, node: Side, tables: &Tables, now: u64) -> Result<(), Memory>
+/// Appends what the node with a number knows of each of its sequences, at a moment.
+pub fn push_node(out: &mut Blob, node: u64, tables: &Tables, now: u64) -> Result<(), Memory>
     ensures { OnOk result (out.new ≡ out.old ++ node_text node tables.now.records now) }
 {
     for before in 0..tables.len() {
@@ -29,7 +28,7 @@ pub fn push_node(out: &mut Blob, node: Side, tables: &Tables, now: u64) -> Resul
 /// Appends what a node knows of the sequence with a number.
 fn push_sequence(
     out: &mut Blob,
-    node: Side,
+    node: u64,
     tables: &Tables,
     seq: u32,
     now: u64,

@@ -3,7 +3,6 @@ mod AskLemmas
 mod CallLemmas
 mod EventLemmas
 mod HeadlineLemmas
-mod ItemLemmas
 mod LegLemmas
 mod MoveLemmas
 mod OnwardLemmas
@@ -15,6 +14,5 @@ mod ReadingLemmas
 mod RunLemmas
 mod StatusLemmas
 mod StoryLemmas
-mod SummaryLemmas
 mod TaleLemmas
 mod WithinLemmas

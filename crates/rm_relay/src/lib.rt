@@ -15,7 +15,6 @@ mod report;
 pub mod run;
 pub mod script;
 pub mod stage;
-mod summary;
 mod wire;
 
 pub use event::Event;

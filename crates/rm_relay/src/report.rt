@@ -1,10 +1,10 @@
 //! The lines of a relay's report that answer the lines of its script.
 ghost use Rattle.std.specs.Prelude.{◌≡◌, ◌++◌, OnOk};
-ghost use Rattle.rm_relay.specs.Report.{count_text, counts_text, ending_text, line_text};
+ghost use Rattle.rm_relay.specs.Report.{counts_text, ending_text, line_text};
 
 use rm_base::{Blob, Memory, push_decimal};
 use rm_report::Outcome;
-use rm_report::line::push_outcome;
+use rm_report::line::{push_count, push_outcome};
 
 /// How a line of a relay's script came out.
 #[derive(Clone, Copy, Debug, PartialEq, Eq)]
@@ -54,12 +54,4 @@ fn push_ending(out: &mut Blob, ending: Ending) -> Result<(), Memory>
         Ending::Idle => out.push_all(b"idle"),
         Ending::Came(outcome) => push_outcome(out, outcome),
     }
-}
-
-// Appends a space and a number.
-fn push_count(out: &mut Blob, count: u64) -> Result<(), Memory>
-    ensures { OnOk result (out.new ≡ out.old ++ count_text count) }
-{
-    out.push_all(b" ")?;
-    push_decimal(out, count)
 }

@@ -1,14 +1,11 @@
 //! The run of a relay's script.
 ghost use Rattle.std.specs.Prelude.{◌≡◌, ◌++◌, ◌⊎◌, [], IfOk, OnErr, OnOk};
 ghost use Rattle.std.specs.List.{AllByRecursion};
-ghost use Rattle.node_actor.specs.Stands.{Stands};
-ghost use Rattle.rm_disk.specs.Told.{Told};
-ghost use Rattle.rm_protocol.specs.Node.{Node as Value};
 ghost use Rattle.rm_protocol.specs.Terms.{Terms};
 ghost use Rattle.rm_replay.specs.Net.{AreOfNet};
 ghost use Rattle.rm_relay.specs.Headline.{KeepsPromise};
 ghost use Rattle.rm_relay.specs.Played.{IsUnmade, Ran, RanShort, WereSpared};
-ghost use Rattle.rm_relay.specs.Report.{end_text, known_text};
+ghost use Rattle.rm_relay.specs.Report.{end_text};
 ghost use Rattle.rm_relay.specs.Shows.{Drives, IsFresh, Shows, StandFor, drives_of, scene_of};
 ghost use Rattle.rm_relay.specs.Within.{IsWithin};
 ghost use Rattle.relay_word.specs.World.{World, start};
@@ -18,7 +15,6 @@ use crate::happen::address;
 use crate::laws::a_played_relay_keeps_its_promise;
 use crate::play::play;
 use crate::stage::{Nodes3, Stage3};
-use crate::summary::{push_down, push_node};
 use node_actor::Actor;
 use node_actor::laws::each_image_is_left;
 use relay_word::Station;
@@ -26,6 +22,7 @@ use rm_base::{Blob, Memory};
 use rm_disk::CrashDisk;
 use rm_network::Wire;
 use rm_replay::laws::there_are_nets;
+use rm_replay::run::push_known;
 use std::alloc::Global;
 
 /// Makes the nodes, with the numbers 1 to 3.
@@ -47,24 +44,13 @@ fn make<M: CrashDisk, W: Wire>(alloc: Global, stage: &mut Stage3<M, W>) -> Resul
     Ok(Nodes3 { one, two, three })
 }
 
-/// Appends what a node knows in the end.
-fn push_known(report: &mut Blob, station: Station, actor: &Actor) -> Result<(), Memory>
-    ensures { (x : Value) (now : Told) → Stands x now actor.now
-        → OnOk result (report.new ≡ report.old ++ known_text station x) }
-{
-    if actor.is_down() {
-        return push_down(report, station);
-    }
-    push_node(report, station, actor.tables(), actor.clock())
-}
-
 /// Appends what the nodes know in the end.
 fn push_end(report: &mut Blob, nodes: &Nodes3) -> Result<(), Memory>
     ensures { (w : World) (d : Drives) → StandFor w d nodes.now → OnOk result (report.new ≡ report.old ++ end_text w) }
 {
-    push_known(report, Station::One, &nodes.one)?;
-    push_known(report, Station::Two, &nodes.two)?;
-    push_known(report, Station::Three, &nodes.three)
+    push_known(report, 1, &nodes.one)?;
+    push_known(report, 2, &nodes.two)?;
+    push_known(report, 3, &nodes.three)
 }
 
 /// Plays a script over nodes that were just made, and answers the report.

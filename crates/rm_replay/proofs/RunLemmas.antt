@@ -5,7 +5,6 @@ use Rattle.rm_disk.specs.Call.{Call}
 use Rattle.rm_protocol.specs.Terms.{Terms}
 use Rattle.rm_script.specs.Within.{IsWithin}
 use Rattle.rm_script.specs.declared.event.Event.{Event as Said}
-use Rattle.rm_script.specs.declared.event.Side.TheVariants as place
 use Rattle.rm_replay.specs.AllLemmas.{all_get, all_take}
 use Rattle.rm_replay.specs.Asked.{WereSpared}
 use Rattle.rm_replay.specs.Net.{AreOfNet}
@@ -38,12 +37,12 @@ PlayedIsSent =
 pub ran_of : EachIsLeft → PlayedIsSent → (terms : Terms) (script : List Said) (old mid now : Scene) (nodes : Nodes)
     (text one two : List ℕ) → AreOfNet terms → AllByRecursion IsWithin script → WereSpared old.drives mid.drives
     → (all : AllPlayed terms script mid now nodes text)
-    → one ≡ text ++ known_text place.One all.story.world.one
-    → two ≡ one ++ known_text place.Two all.story.world.two → Ran terms script old now two
+    → one ≡ text ++ known_text 1 all.story.world.one → two ≡ one ++ known_text 2 all.story.world.two
+    → Ran terms script old now two
 ran_of each law terms script old mid now nodes text one two net within made all first second =
     let w = all.story.world in
-    let a = known_text place.One w.one in
-    let b = known_text place.Two w.two in
+    let a = known_text 1 w.one in
+    let b = known_text 2 w.two in
     record {
       story = all.story;
       played = all.played;

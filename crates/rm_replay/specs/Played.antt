@@ -6,8 +6,6 @@ use Rattle.rm_protocol.specs.World.{One, Two, World, Event, start}
 use Rattle.rm_report.specs.Report.{down_text, lines_text}
 use Rattle.rm_report.specs.declared.line.Line.{Line}
 use Rattle.rm_script.specs.declared.event.Event.{Event as Said}
-use Rattle.rm_script.specs.declared.event.Side.{Side as Place}
-use Rattle.rm_script.specs.declared.event.Side.TheVariants as place
 use Rattle.node_actor.specs.Stands.{Leaves}
 use Rattle.node_store.specs.Changes.{WasNotMade}
 use Rattle.node_summary.specs.Summary.{node_text}
@@ -53,18 +51,18 @@ pub data Played (terms : Terms) : List Said → Story → Type 0 where
   more : (lines : List Said) (s : Story) (line : Said) (event : Option Event) → Played terms lines s
       → Means line event → Played terms (lines ++ line ∷ []) (told_on terms (length lines + 1) s line event)
 
--- what a node knows in the end, by its state
-abbrev pub known_by : Place → Node → State → List ℕ
-known_by at x Up = node_text at (records x) x.clock
-known_by at x _ = down_text at
+-- what the node with this number knows in the end, by its state
+abbrev pub known_by : ℕ → Node → State → List ℕ
+known_by number x Up = node_text number (records x) x.clock
+known_by number x _ = down_text number
 
--- what a node knows in the end
-abbrev pub known_text : Place → Node → List ℕ
-known_text at x = known_by at x x.state
+-- what the node with this number knows in the end
+abbrev pub known_text : ℕ → Node → List ℕ
+known_text number x = known_by number x x.state
 
 -- what both know
 abbrev pub end_text : World → List ℕ
-end_text w = known_text place.One w.one ++ known_text place.Two w.two
+end_text w = known_text 1 w.one ++ known_text 2 w.two
 
 -- both disks had the crashes and the faults of a story
 pub record TellBoth (s : Story) (first now : Scene) : Type 0 where

@@ -45,15 +45,15 @@ fn make<M: CrashDisk, W: Wire>(alloc: Global, stage: &mut Stage<M, W>) -> Result
     Ok(Nodes { one, two })
 }
 
-/// Appends what a node knows in the end.
-fn push_known(report: &mut Blob, side: Side, actor: &Actor) -> Result<(), Memory>
+/// Appends what the node with a number knows in the end.
+pub fn push_known(report: &mut Blob, number: u64, actor: &Actor) -> Result<(), Memory>
     ensures { (x : Value) (now : Told) → Stands x now actor.now
-        → OnOk result (report.new ≡ report.old ++ known_text side x) }
+        → OnOk result (report.new ≡ report.old ++ known_text number x) }
 {
     if actor.is_down() {
-        return push_down(report, side);
+        return push_down(report, number);
     }
-    push_node(report, side, actor.tables(), actor.clock())
+    push_node(report, number, actor.tables(), actor.clock())
 }
 
 /// Makes two nodes on disks that aren't armed, plays a script over them and a wire without packets, and answers the
@@ -89,7 +89,7 @@ pub fn run_script<M: CrashDisk, W: Wire>(
     let mut nodes = make(alloc, stage)?;
     let mut report = Blob::new(alloc);
     play(alloc, stage, &mut nodes, script, &mut report)?;
-    push_known(&mut report, Side::One, &nodes.one)?;
-    push_known(&mut report, Side::Two, &nodes.two)?;
+    push_known(&mut report, 1, &nodes.one)?;
+    push_known(&mut report, 2, &nodes.two)?;
     Ok(report)
 }

@@ -1,4 +1,4 @@
--- The text of a report: a line for each line of the script that does something, and then what both nodes know.
+-- The text of a report: a line for each line of the script that does something, and then what the nodes know.
 use Rattle.std.specs.Prelude.{ℕ, ◌==◌, if◌then◌else◌, List, [], ◌∷◌, ◌++◌, codes, decimal}
 use Rattle.hex.specs.Hex.{encode_lower}
 use Rattle.ack_ranges.specs.declared.range.Range.{Range}
@@ -15,8 +15,6 @@ use Rattle.rm_report.specs.declared.line.Outcome.TheVariants.{Done}
 use Rattle.rm_report.specs.declared.line.Reason.{Reason}
 use Rattle.rm_report.specs.declared.line.Reason.TheVariants as reason
 use Rattle.rm_report.specs.declared.summary.Place.{Place}
-use Rattle.rm_script.specs.Script.{side_text}
-use Rattle.rm_script.specs.declared.event.Side.{Side}
 use Rattle.rm_source.specs.declared.phase.OutPhase.{OutPhase}
 use Rattle.rm_source.specs.declared.phase.OutPhase.TheVariants as outgoing
 
@@ -61,7 +59,7 @@ abbrev pub lines_text : List Line → List ℕ
 lines_text [] = []
 lines_text (line ∷ lines) = line_text line ++ lines_text lines
 
--- ---- what both nodes know
+-- ---- what a node knows
 
 -- R, such as 1-3,5-5, and - where there are no ranges
 abbrev pub ranges_text : List Range → List ℕ
@@ -90,9 +88,9 @@ behaviour_text NoDiscard = codes "loose"
 behaviour_text EntireSequence = codes "des"
 behaviour_text FollowingFirstGap = codes "dfg"
 
--- N K: a node, and the place of a sequence among those of the node
+-- N K: the number of a node, and the place of a sequence among those of the node
 abbrev pub place_text : Place → List ℕ
-place_text place = side_text place.node ++ codes " " ++ decimal place.seq
+place_text place = decimal place.node ++ codes " " ++ decimal place.seq
 
 -- PHASE accepted A acked R
 abbrev pub sending_text : OutPhase → ℕ → List Range → List ℕ
@@ -134,5 +132,5 @@ item_text place number bytes =
     codes "item " ++ place_text place ++ codes " " ++ decimal number ++ codes " " ++ encode_lower bytes ++ codes "\n"
 
 -- down N
-abbrev pub down_text : Side → List ℕ
-down_text node = codes "down " ++ side_text node ++ codes "\n"
+abbrev pub down_text : ℕ → List ℕ
+down_text node = codes "down " ++ decimal node ++ codes "\n"

@@ -76,8 +76,8 @@ fn push_line(out: &mut Blob, line: &Line) -> Result<(), Memory>
     out.push_all(b"\n")
 }
 
-// Appends a space and a number.
-fn push_count(out: &mut Blob, count: u64) -> Result<(), Memory>
+/// Appends a space and a number.
+pub fn push_count(out: &mut Blob, count: u64) -> Result<(), Memory>
     ensures { OnOk result (out.new ≡ out.old ++ (codes " " ++ decimal count)) }
 {
     out.push_all(b" ")?;

@@ -1,12 +1,10 @@
 //! The words of a report.
 ghost use Rattle.std.specs.Prelude.{◌≡◌};
 ghost use Rattle.rm_report.specs.Report.{reason_text, out_phase, in_phase, behaviour_text};
-ghost use Rattle.rm_script.specs.Script.{side_text};
 
 use crate::line::Reason;
 use rm_base::Behaviour;
 use rm_destination::InPhase;
-use rm_script::Side;
 use rm_source::OutPhase;
 
 pub(crate) fn reason_name(reason: Reason) -> &'static [u8]
@@ -58,14 +56,5 @@ pub(crate) fn behaviour_name(behaviour: Behaviour) -> &'static [u8]
         Behaviour::NoDiscard => b"loose",
         Behaviour::EntireSequence => b"des",
         Behaviour::FollowingFirstGap => b"dfg",
-    }
-}
-
-pub(crate) fn side_name(node: Side) -> &'static [u8]
-    ensures { result.now ≡ side_text node }
-{
-    match node {
-        Side::One => b"1",
-        Side::Two => b"2",
     }
 }

@@ -3,17 +3,16 @@ ghost use Rattle.std.specs.Prelude.{◌≡◌, ◌++◌, OnOk};
 ghost use Rattle.rm_report.specs.Report.{out_text, in_text, counts_text, item_text, down_text, place_text, ranges_text};
 ghost use Rattle.rm_report.specs.Report.{consumed_text, receiving_text, sending_text};
 
-use crate::names::{behaviour_name, in_phase_name, out_phase_name, side_name};
+use crate::names::{behaviour_name, in_phase_name, out_phase_name};
 use ack_ranges::Range;
 use rm_base::{Behaviour, Blob, Memory, push_decimal, push_hex};
 use rm_destination::InPhase;
-use rm_script::Side;
 use rm_source::OutPhase;
 
-/// A node, and the place of a sequence among those of the node, counted from 1.
+/// The number of a node, and the place of a sequence among those of the node, counted from 1.
 #[derive(Clone, Copy, Debug, PartialEq, Eq)]
 pub struct Place {
-    pub node: Side,
+    pub node: u64,
     pub seq: u64,
 }
 
@@ -127,19 +126,19 @@ pub fn push_item(out: &mut Blob, place: Place, number: u64, bytes: &[u8]) -> Res
     out.push_all(b"\n")
 }
 
-/// Appends that a node is down, in place of what it knows.
-pub fn push_down(out: &mut Blob, node: Side) -> Result<(), Memory>
+/// Appends that the node with a number is down, in place of what it knows.
+pub fn push_down(out: &mut Blob, node: u64) -> Result<(), Memory>
     ensures { OnOk result (out.new ≡ out.old ++ down_text node) }
 {
     out.push_all(b"down ")?;
-    out.push_all(side_name(node))?;
+    push_decimal(out, node)?;
     out.push_all(b"\n")
 }
 
 fn push_place(out: &mut Blob, place: Place) -> Result<(), Memory>
     ensures { OnOk result (out.new ≡ out.old ++ place_text place) }
 {
-    out.push_all(side_name(place.node))?;
+    push_decimal(out, place.node)?;
     out.push_all(b" ")?;
     push_decimal(out, place.seq)
 }

@@ -6,7 +6,6 @@ use rm_message::FaultKind;
 use rm_report::{
     Line, Outcome, Place, Reason, push_down, push_in, push_item, push_lines, push_out, push_ranges,
 };
-use rm_script::Side;
 use rm_source::OutPhase;
 use std::test::Fail;
 
@@ -47,14 +46,8 @@ fn lines(rt: HostRuntime) -> Result<(), Fail> {
 
 #[test]
 fn what_is_known(rt: HostRuntime) -> Result<(), Fail> {
-    let here = Place {
-        node: Side::One,
-        seq: 1,
-    };
-    let there = Place {
-        node: Side::Two,
-        seq: 1,
-    };
+    let here = Place { node: 1, seq: 1 };
+    let there = Place { node: 2, seq: 1 };
     let all = [Range { lower: 1, upper: 3 }];
     let gap = [Range { lower: 1, upper: 1 }, Range { lower: 3, upper: 3 }];
     let mut out = Blob::new(rt.alloc());
@@ -79,7 +72,7 @@ fn what_is_known(rt: HostRuntime) -> Result<(), Fail> {
         0,
         2,
     )?;
-    push_down(&mut out, Side::Two)?;
+    push_down(&mut out, 2)?;
     push_ranges(&mut out, &gap)?;
     let want =
         b"out 1 1 open accepted 3 acked 1-3\nin 2 1 open dfg received 1-3 inbox 3 discarded 0\n\
