@@ -1,6 +1,6 @@
 -- Where a request to an address goes (URL Standard; RFC 9110, section 4.2.1).
-use Rattle.std.specs.Prelude.{ℕ, List, [], ◌∷◌, ◌++◌, codes, bytes_eq, Option, None, Some, unwrap_or, option_map, Ok}
-use Rattle.std.specs.Prelude.{Err, if◌then◌else◌}
+use Rattle.std.specs.Prelude.{ℕ, Bool, true, false, List, [], ◌∷◌, ◌++◌, codes, bytes_eq, Option, None, Some, unwrap_or}
+use Rattle.std.specs.Prelude.{option_map, Ok, Err, if◌then◌else◌}
 use Rattle.url.specs.Host.{host_text}
 use Rattle.url.specs.declared.error.ParseError.{ParseError}
 use Rattle.url.specs.declared.error.ParseError.TheVariants.{Overflow, OutOfMemory}
@@ -8,8 +8,6 @@ use Rattle.url.specs.Parts.{Parts, nonempty_host}
 use Rattle.url.specs.Parser.{Parsed, parse_url}
 use Rattle.http_endpoint.specs.Bytes.{question_mark}
 use Rattle.http_endpoint.specs.declared.target.Target.{Target}
-use Rattle.http_endpoint.specs.declared.target.TargetError.{TargetError}
-use Rattle.http_endpoint.specs.declared.target.TargetError.TheVariants.{Memory, TooLong}
 
 -- a query behind its question mark, where there is one
 abbrev pub query_text : Option (List ℕ) → List ℕ
@@ -25,11 +23,11 @@ abbrev pub target_of_url : Parts → Option Target
 target_of_url url = if bytes_eq url.scheme (codes "http") then option_map (target_at url)
     (option_map host_text (nonempty_host url)) else None
 
--- why a target is not told, where a parse had no room; another refusal is none
-abbrev pub room_error : ParseError → Option TargetError
-room_error OutOfMemory = Some Memory
-room_error Overflow = Some TooLong
-room_error e = None
+-- memory was wanting for a parse, or 4 GB are too few for its URL
+abbrev pub has_no_room : ParseError → Bool
+has_no_room OutOfMemory = true
+has_no_room Overflow = true
+has_no_room e = false
 
 -- a text that is no URL has none
 abbrev pub target_of_parse : Parsed Parts → Option Target

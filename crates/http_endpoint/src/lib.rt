@@ -23,5 +23,5 @@ pub use input::Input;
 pub use media::Media;
 pub use request::{read_request, read_request_as};
 pub use response::{Response, read_response};
-pub use target::{Target, TargetError, read_target};
+pub use target::{Target, read_target};
 pub use write::{write_request, write_request_as, write_response, write_response_as};

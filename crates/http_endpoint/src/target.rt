@@ -1,31 +1,12 @@
 //! Where a request to an address goes.
 ghost use Rattle.std.specs.Prelude.{◌≡◌, ◌++◌, IfOk, OnOk};
 ghost use Rattle.std.specs.Option.{option_copied};
-ghost use Rattle.http_endpoint.specs.declared.target.TargetError.TheVariants.{Memory as WantsMemory};
-ghost use Rattle.http_endpoint.specs.Targets.{query_text, target_of_url, target_of, room_error};
+ghost use Rattle.http_endpoint.specs.Targets.{query_text, target_of_url, target_of, has_no_room as has_no_room_by};
 
 use rm_base::{Blob, Memory, Uri};
 use std::alloc::Global;
 use std::str;
-use thiserror::Error;
 use url::{ParseError, Url};
-
-/// Why a target is not told.
-#[derive(Clone, Copy, Debug, PartialEq, Eq, Error)]
-pub enum TargetError {
-    #[error("out of memory")]
-    Memory,
-    #[error("the URL comes to 4 GB")]
-    TooLong,
-}
-
-impl From<Memory> for TargetError {
-    ghost from_gives = { λ _ e. e ≡ WantsMemory };
-
-    fn from(_memory: Memory) -> TargetError {
-        TargetError::Memory
-    }
-}
 
 /// The host and the port to dial, and the path with the query.
 #[derive(Debug, Drop)]
@@ -67,29 +48,32 @@ fn target_of_url(alloc: Global, url: &Url) -> Result<Option<Target>, Memory>
     }))
 }
 
-/// The target of an address, or None exactly where it is no URL of the scheme http with a host (URL Standard).
-pub fn read_target(alloc: Global, address: &Uri) -> Result<Option<Target>, TargetError>
+/// The target of an address, or None exactly where it is no URL of the scheme http with a host (URL Standard). A URL
+/// that comes to 4 GB, as none of an address does, counts as want of memory.
+pub fn read_target(alloc: Global, address: &Uri) -> Result<Option<Target>, Memory>
     ensures { IfOk result (λ target. target ≡ target_of address.now) }
 {
     let Ok(text) = str::from_utf8(address.as_slice()) else {
         unreachable!()
     };
     match Url::parse(alloc, text) {
-        Ok(url) => Ok(target_of_url(alloc, &url)?),
-        Err(error) => match room_error(error) {
-            Some(cause) => Err(cause),
-            None => Ok(None),
-        },
+        Ok(url) => target_of_url(alloc, &url),
+        Err(error) => {
+            if has_no_room(error) {
+                return Err(Memory);
+            }
+            Ok(None)
+        }
     }
 }
 
-// Why the target is not told, where the parse had no room.
-fn room_error(error: ParseError) -> Option<TargetError>
-    ensures { result ≡ room_error error }
+// Whether a parse had no room, and so tells nothing of its text.
+fn has_no_room(error: ParseError) -> bool
+    ensures { result ≡ has_no_room_by error }
 {
     match error {
-        ParseError::OutOfMemory => Some(TargetError::Memory),
-        ParseError::Overflow => Some(TargetError::TooLong),
-        _ => None,
+        ParseError::OutOfMemory => true,
+        ParseError::Overflow => true,
+        _ => false,
     }
 }

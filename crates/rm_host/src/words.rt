@@ -367,9 +367,8 @@ fn reachable(alloc: Global, address: Uri) -> Result<Uri, End>
     ensures { MatchResult result (λ uri. (uri ≡ address) × (target_of address ≢ None))
         (λ e. (e ≡ End.Memory) ⊎ ((e ≡ End.BadAddress) × (target_of address ≡ None))) }
 {
-    match read_target(alloc, &address) {
-        Ok(Some(_)) => Ok(address),
-        Ok(None) => Err(End::BadAddress),
-        Err(_) => Err(End::Memory),
+    match read_target(alloc, &address)? {
+        Some(_) => Ok(address),
+        None => Err(End::BadAddress),
     }
 }

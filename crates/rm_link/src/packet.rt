@@ -9,7 +9,7 @@ ghost use Rattle.rm_link.specs.Posts.{ended_by};
 
 use crate::link::Link;
 use http_endpoint::{
-    HttpError, Media, Response, Target, TargetError, read_response, read_target, write_request_as,
+    HttpError, Media, Response, Target, read_response, read_target, write_request_as,
 };
 use rm_base::{Blob, Memory, Uri};
 use std::alloc::Global;
@@ -48,12 +48,9 @@ pub fn post_as<L: Link>(
     ensures begins { OnErr result (IsBegunAs media (L.told link.old) (L.told link.new)
         (target_of address.now) bytes.now) }
 {
-    match read_target(alloc, address) {
-        Ok(Some(target)) => post_to(alloc, link, &target, bytes, media),
-        Ok(None) => Ok(Fate::Missed),
-        Err(TargetError::Memory) => Err(Memory),
-        // (an address has at most 2048 bytes, so that its URL doesn't come to 4 GB)
-        Err(TargetError::TooLong) => Err(Memory),
+    match read_target(alloc, address)? {
+        Some(target) => post_to(alloc, link, &target, bytes, media),
+        None => Ok(Fate::Missed),
     }
 }
 
