@@ -1,6 +1,6 @@
 //! A crash inside `forward`. The run without one is that of the program `wsrm_relay`.
 
-use crate::stage::played;
+use crate::stage::play;
 use std::test::Fail;
 
 // Node 2's disk fails at the last device call of `forward`, and the crash keeps what was written.
@@ -17,7 +17,7 @@ const FORWARDED_ONCE: &[u8] =
 
 #[test]
 fn a_crash_forwards_an_item_once(rt: HostRuntime) -> Result<(), Fail> {
-    let report = played(rt.alloc(), CRASH_IN_FORWARD)?;
-    assert_eq!(rt; report.as_slice(), FORWARDED_ONCE);
+    let played = play(rt.alloc(), CRASH_IN_FORWARD)?;
+    assert_eq!(rt; played.report.as_slice(), FORWARDED_ONCE);
     Ok(())
 }

@@ -5,7 +5,7 @@ ghost use Rattle.rm_relay.specs.Within.{IsWithin};
 
 use rm_base::Blob;
 use rm_disk::MemDisk;
-use rm_network::MemWire;
+use rm_network::{MemWire, Wire};
 use rm_relay::laws::values_are_within;
 use rm_relay::run::run_relay;
 use rm_relay::script::read_relay;
@@ -21,8 +21,17 @@ pub(crate) fn events_of(alloc: Global, script: &[u8]) -> Result<Vec<Event>, Scri
     read_relay(alloc, script)
 }
 
-/// The report of a script.
-pub(crate) fn played(alloc: Global, script: &[u8]) -> Result<Blob, ScriptError> {
+/// What a play of a script leaves.
+#[derive(Drop)]
+pub(crate) struct Played {
+    pub report: Blob,
+
+    /// How many packets there are.
+    pub packets: u64,
+}
+
+/// Plays a script over empty disks and a wire without packets.
+pub(crate) fn play(alloc: Global, script: &[u8]) -> Result<Played, ScriptError> {
     let mut stage = Stage3 {
         one: MemDisk::new(alloc),
         two: MemDisk::new(alloc),
@@ -31,5 +40,8 @@ pub(crate) fn played(alloc: Global, script: &[u8]) -> Result<Blob, ScriptError> 
     };
     let events = events_of(alloc, script)?;
     let report = run_relay(alloc, &mut stage, events)?;
-    Ok(report)
+    Ok(Played {
+        report,
+        packets: stage.wire.count(),
+    })
 }
