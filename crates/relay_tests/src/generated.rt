@@ -5,7 +5,7 @@
 //! what waits, and the packets from there on are delivered, all of them: what was lost before stays lost. No crash is
 //! inside a `send`, so what node 1 accepted is known from the script alone, and with it all that the nodes know in the
 //! end: node 3's inbox has each message, once and in order. Since nothing leaves that inbox, what it had before then
-//! was the beginning of that.
+//! was the beginning of that. A test takes some two seconds, and minutes by `rt try`, which then wants `--seconds 600`.
 ghost use Rattle.std.specs.Prelude.{◌≤◌};
 
 use crate::stage::play;
@@ -314,8 +314,8 @@ fn judge(alloc: Global, number: u64) -> Result<Verdict, ScriptError> {
     })
 }
 
-// Plays the scripts of the numbers from one on. Each hundred of them sends 986 to 1043 messages and has 400 failures or
-// more, of which 100 are in the scripts' beginnings: fewer would say that the turns come to nothing.
+// Plays the scripts of the numbers from one on. Each hundred of them sends 986 to 1043 messages, and some 500 of its
+// lines fail by a disk, of which 100 are in the scripts' beginnings: fewer would say that the turns come to nothing.
 fn play_all(rt: &impl Abort, alloc: Global, first: u64) -> Result<(), Fail>
     requires { first ≤ 1000 }
 {
