@@ -1,6 +1,6 @@
 -- What a mount finds, and where it finds none.
 use Rattle.std.proofs.Common.{◌≡◌, ℕ, ◌+◌, ◌<◌, ◌≤◌, ◌^◌, List, [], ◌∷◌, length}
-use Rattle.std.proofs.Common.{refl, sym, ap, subst, ◌∙◌, arith, length-append, drop, Result, Err}
+use Rattle.std.proofs.Common.{refl, sym, ap, subst, ◌∙◌, arith, length-append, drop, Bool, Result, Err, IsTrue}
 use Rattle.std.specs.List.{AllByRecursion, flat_map}
 use Rattle.record_batch.specs.Batch.{batch_text}
 use Rattle.record_batch.specs.Fact.{Fact}
@@ -16,7 +16,7 @@ use Rattle.rm_protocol.specs.Node.{records_in}
 use Rattle.sequence_table.specs.Makers.{counter}
 use Rattle.node_laws.specs.Records.{AreValues, IsKept}
 use Rattle.node_store.specs.Has.{AreOfNode, entries_of, Has}
-use Rattle.node_store.specs.Imported.{Imports, IsTooLong}
+use Rattle.node_store.specs.Imported.{Imports, IsTooLong, ServesAsBefore}
 use Rattle.node_store.specs.declared.error.ImportError.TheVariants.{Full as FullBefore}
 use Rattle.node_store.specs.Mounted.{AreReplayed, AreReplayedFrom, AreServed, Finds, KeepsWindows, Replays}
 use Rattle.node_store.specs.Stored.{IsServing, stored}
@@ -81,16 +81,29 @@ found old now entries journal r stands fits are = record {
   has = has_served now entries journal r fits are;
 }
 
--- or as the bytes had them of which it was made
-pub imported : (bytes : List ℕ) (now : List Call) (entries : List (List ℕ)) (journal : JournalState) (r : List Fact)
-    → StandsAsBefore entries bytes → journal ≡ journal_of entries → Fits entries now journal → AreServed entries r
-    → Imports bytes now (stored journal r)
-imported bytes now entries journal r stands is fits are = record {
-  batches = are.batches;
-  were = subst (λ (es : List (List ℕ)). StandsAsBefore es bytes) are.are stands;
-  has = has_served now entries journal r fits are;
-  journal = is ∙ ap journal_of are.are;
-}
+-- what was read of bytes is what a disk was made of
+pub imported : (tells : Bool) (bytes : List ℕ) (now : List Call) (entries : List (List ℕ)) (journal : JournalState)
+    (r : List Fact) → ServesAsBefore bytes r → StandsAsBefore entries bytes → journal ≡ journal_of entries
+    → (IsTrue tells → Fits entries now journal) → Imports tells bytes now (stored journal r)
+imported tells bytes now entries journal r reads stands is fits =
+    let are = reads.served in
+    let same = ends_one entries reads.entries (drop 8 bytes) stands.ends reads.stands.ends in
+    record {
+      batches = are.batches;
+      were = subst (λ (es : List (List ℕ)). StandsAsBefore es bytes) are.are reads.stands;
+      are = are.node;
+      journal = is ∙ ap journal_of (same ∙ are.are);
+      records = are.records;
+      has = λ t. has_served now reads.entries journal r
+          (subst (λ (es : List (List ℕ)). Fits es now journal) same (fits t)) are;
+    }
+
+-- and a node may go on from it
+pub serves_on : (bytes : List ℕ) (entries : List (List ℕ)) (journal : JournalState) (r : List Fact)
+    → ServesAsBefore bytes r → StandsAsBefore entries bytes → journal ≡ journal_of entries → IsServing journal r
+serves_on bytes entries journal r reads stands is =
+    subst (λ (j : JournalState). IsServing j r)
+    (ap journal_of (ends_one reads.entries entries (drop 8 bytes) reads.stands.ends stands.ends) ∙ sym is) reads.serving
 
 -- a journal that was made of such bytes ends within what memory can hold, and behind its start
 pub ends_before : (journal : JournalState) (entries : List (List ℕ)) → journal ≡ journal_of entries

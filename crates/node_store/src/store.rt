@@ -6,6 +6,7 @@ ghost use Rattle.record_batch.specs.Fact.{Fact, Made, fact_of};
 ghost use Rattle.rm_base.specs.Limits.{journal_bytes};
 ghost use Rattle.rm_disk.specs.Call.{crashes_of, seen_of};
 ghost use Rattle.rm_disk.specs.Cause.{HasCause};
+ghost use Rattle.rm_disk.specs.Fuse.{Burns};
 ghost use Rattle.rm_disk.specs.Image.{MayLeave, OnlyLeaves};
 ghost use Rattle.rm_journal.specs.Entries.{list_of, StandsAsBefore};
 ghost use Rattle.rm_journal.specs.JournalState.{end_of};
@@ -164,12 +165,13 @@ impl Store {
         })
     }
 
-    /// Makes a disk that of the node whose journal of the layout before these bytes are, in three device calls; then it
-    /// reads each entry, as `mount` does. What the disk held is lost, and after any answer but Ok it holds anything. It
-    /// answers NotAJournal where the bytes stand for no batches of a node, by the tests of `mount`.
+    /// Makes a disk that of the node whose journal of the layout before these bytes are, in three device calls. Before
+    /// the first of them it reads each entry over a disk in memory, as `mount` does over a real one, for which it takes
+    /// memory for three copies of the journal. It answers NotAJournal exactly where the bytes stand for no batches of a
+    /// node, by the tests of `mount`. What the disk held is lost, and after Disk it holds anything.
     pub fn import<D: Disk>(alloc: Global, disk: &mut D, bytes: &[u8]) -> Result<Store, ImportError>
-        ensures imported { IsTrue D.tells → IfOk result (Imports bytes.now (D.told disk.new).past) }
-        ensures none { IsTrue D.tells → result ≡ Err BytesAreNone → IsNoNodeBefore bytes.now }
+        ensures imported { IfOk result (Imports D.tells bytes.now (D.told disk.new).past) }
+        ensures none { result ≡ Err BytesAreNone → IsNoNodeBefore bytes.now }
 
         // A journal that would be longer than one may be is refused, also where no node's batches are in it.
         ensures short { is_ok result ≡ true → (entries : List (List ℕ)) → StandsAsBefore entries bytes.now →
@@ -179,8 +181,14 @@ impl Store {
         ensures refusals { IfErr result (λ error. (error ≡ LacksMemory) ⊎ (error ≡ DiskFailed) ⊎ (error ≡ BytesAreNone)
             ⊎ IsTooLong bytes.now error) }
 
+        // Each answer but Ok and Disk comes before any device call.
+        ensures untouched { IsTrue D.tells → IfErr result (λ error. error ≢ DiskFailed →
+            ((D.told disk.new).past ≡ (D.told disk.old).past) × ((D.told disk.new).fuse ≡ (D.told disk.old).fuse)) }
+
         ensures up { IfOk result (λ store. store.journal.is_down ≡ false) }
         ensures kept { IfOk result (λ store. IsKept store.records) }
+        ensures fuse { IsTrue D.tells → (is_ok result ≡ true) ⊎ (import_failed result ≡ true) →
+            Burns 3 (D.told disk.old).fuse (D.told disk.new).fuse (is_ok result) }
         ensures unarmed { IsTrue D.tells →
             KeepsUnarmed (D.told disk.old).fuse (D.told disk.new).fuse (import_failed result) }
         ensures cause { HasCause (D.told disk.old).faults (D.told disk.new).faults (import_failed result) }

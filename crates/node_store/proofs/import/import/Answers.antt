@@ -1,65 +1,36 @@
-use Rattle.std.proofs.Common.{◌∙◌, Err, ap, sym, subst, refl}
+use Rattle.std.proofs.Common.{◌∙◌, Err, ap, sym}
 use Rattle.std.proofs.lemmas.Result.{err_from_is_err_and}
-use Rattle.rm_journal.specs.Journal.{Fits}
-use Rattle.rm_journal.specs.JournalState.{JournalState}
 use Rattle.node_store.specs.Has.{entries_of}
-use Rattle.node_store.specs.Stored.{IsServing}
 use Rattle.node_store.specs.declared.error.ImportError.{ImportError}
-use Rattle.node_store.specs.declared.error.MountError.{MountError}
-use Rattle.node_store.proofs.MountLemmas.{ends_before, imported}
+use Rattle.node_store.proofs.MountLemmas.{imported, serves_on}
 use Rattle.node_store.proofs.ReplayLemmas.{err_is}
 use Rattle.node_store.proofs.import.import.Goals as goal
 
 pub returns-in_err-journal-clause-none : goal.returns-in_err-journal-clause-none
-returns-in_err-journal-clause-none g c tells e batches node stands =
-    let p = err_from_is_err_and c.from_residual.result c.from_residual.ensures.1 in
+returns-in_err-journal-clause-none g c e batches node stands =
+    let r = c.from_residual-in_err-journal in
+    let p = err_from_is_err_and r.result r.ensures.1 in
     let none = c.in_err-journal.was
-    ∙ ap (λ (x : ImportError). Err x) (sym p.2 ∙ err_is p.0 _ c.from_residual.result p.1 e) in
+    ∙ ap (λ (x : ImportError). Err x) (sym p.2 ∙ err_is p.0 _ r.result p.1 e) in
     c.open_before.ensures.none none (entries_of batches) stands
-
-pub serve-requires-clause-up : goal.serve-requires-clause-up
-serve-requires-clause-up g c = ap (λ (j : JournalState). j.is_down) c.in_ok-journal.ensures.made.2
-
-pub serve-requires-clause-short : goal.serve-requires-clause-short
-serve-requires-clause-short g c =
-    let made = c.in_ok-journal.ensures.made in
-    (ends_before c.in_ok-journal.journal made.0 made.2 (c.in_ok-journal.ensures.short refl made.0 made.1)).0
-
-pub serve-requires-clause-placed : goal.serve-requires-clause-placed
-serve-requires-clause-placed g c =
-    let made = c.in_ok-journal.ensures.made in
-    (ends_before c.in_ok-journal.journal made.0 made.2 (c.in_ok-journal.ensures.short refl made.0 made.1)).1
-
-pub serve-requires-clause-fits : goal.serve-requires-clause-fits
-serve-requires-clause-fits g c tells =
-    let made = c.in_ok-journal.ensures.made in (made.0, c.in_ok-journal.ensures.fits tells made.0 made.1)
-
-pub returns-in-Ok-clause-imported : goal.returns-in-Ok-clause-imported
-returns-in-Ok-clause-imported g c tells =
-    let made = c.in_ok-journal.ensures.made in
-    let had = c.in_ok-journal.ensures.fits tells made.0 made.1 in
-    let fits : Fits made.0 (g.D.Disk.told c.serve.new.disk).past c.serve.new.journal =
-    rw (c.in-Ok.ensures.past tells, c.in-Ok.ensures.journal) had in
-    imported c.args.bytes.now (g.D.Disk.told c.serve.new.disk).past made.0 c.serve.new.journal c.in-Ok.tables.records
-    made.1 (c.in-Ok.ensures.journal ∙ made.2) fits (c.in-Ok.ensures.found tells made.0 had)
-
-pub returns-in-Ok-clause-serving : goal.returns-in-Ok-clause-serving
-returns-in-Ok-clause-serving g c =
-    subst (λ (j : JournalState). IsServing j c.in-Ok.tables.records) (sym c.in-Ok.ensures.journal)
-    c.in-Ok.ensures.serving
-
-pub returns-clause-none : goal.returns-clause-none
-returns-clause-none g c tells e batches node stands =
-    c.serve.ensures.none tells
-    (c.in-Err-NotAJournal.is ∙ ap (λ (x : MountError). Err x) c.in-Err-NotAJournal.field-0-is) (entries_of batches)
-    (c.in_ok-journal.ensures.fits tells (entries_of batches) stands) batches node refl
 
 pub returns-in_err-journal-clause-none_short : goal.returns-in_err-journal-clause-none_short
 returns-in_err-journal-clause-none_short g c e entries stands =
-    let p = err_from_is_err_and c.from_residual.result c.from_residual.ensures.1 in
+    let r = c.from_residual-in_err-journal in
+    let p = err_from_is_err_and r.result r.ensures.1 in
     let none = c.in_err-journal.was
-    ∙ ap (λ (x : ImportError). Err x) (sym p.2 ∙ err_is p.0 _ c.from_residual.result p.1 e) in
+    ∙ ap (λ (x : ImportError). Err x) (sym p.2 ∙ err_is p.0 _ r.result p.1 e) in
     absurd (c.open_before.ensures.none none entries stands)
 
-pub returns-clause-none_short : goal.returns-clause-none_short
-returns-clause-none_short g c e entries stands = c.in_ok-journal.ensures.short refl entries stands
+pub returns-clause-imported : goal.returns-clause-imported
+returns-clause-imported g c =
+    let made = c.in_ok-journal.ensures.made in
+    imported g.D.Disk.tells c.args.bytes.now (g.D.Disk.told c.open_before.new.disk).past made.0 c.in_ok-journal.journal
+    c.in_ok-tables.tables.records c.in_ok-tables.ensures.serves made.1 made.2
+    (λ tells. c.in_ok-journal.ensures.fits tells made.0 made.1)
+
+pub returns-clause-serving : goal.returns-clause-serving
+returns-clause-serving g c =
+    let made = c.in_ok-journal.ensures.made in
+    serves_on c.args.bytes.now made.0 c.in_ok-journal.journal c.in_ok-tables.tables.records
+    c.in_ok-tables.ensures.serves made.1 made.2
