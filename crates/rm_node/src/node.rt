@@ -1,10 +1,11 @@
 //! A node: what it keeps, and what it tells.
-ghost use Rattle.std.specs.Prelude.{◌≡◌, ◌⊎◌, ◌<◌, ◌^◌, [], ◌∷◌, true, false, Err, length, IsTrue, IfOk, IfErr};
+ghost use Rattle.std.specs.Prelude.{◌≡◌, ◌≢◌, ◌⊎◌, ◌<◌, ◌^◌, [], ◌∷◌, true, false, Err, length, IsTrue, IfOk, IfErr};
 ghost use Rattle.std.specs.Prelude.{◌+◌, ◌≤◌, ℕ, List, is_ok};
 ghost use Rattle.record_batch.specs.Fact.{Made};
 ghost use Rattle.rm_base.specs.Limits.{journal_bytes};
 ghost use Rattle.rm_disk.specs.Call.{crashes_of, seen_of};
 ghost use Rattle.rm_disk.specs.Cause.{HasCause};
+ghost use Rattle.rm_disk.specs.Fuse.{Burns};
 ghost use Rattle.rm_disk.specs.Image.{MayLeave, OnlyLeaves};
 ghost use Rattle.rm_journal.specs.Entries.{list_of, StandsAsBefore};
 ghost use Rattle.node_store.specs.Changes.{KeepsUnarmed, WasNotMade};
@@ -122,14 +123,13 @@ impl Node {
         Ok(Node { alloc, store, kept })
     }
 
-    /// Makes a disk that of the node whose journal of the layout before these bytes are, in three device calls, and
-    /// finds it there, as `mount` does. What the disk held is lost, and after any answer but Ok it holds anything. It
-    /// answers NotAJournal where the bytes stand for no batches of a node, and Full where its journal would be longer
-    /// than one may be.
+    /// Makes a disk that of the node whose journal of the layout before these bytes are, in three device calls. Before
+    /// the first of them it tests the bytes, for which it takes memory for three copies of the journal. It answers
+    /// NotAJournal exactly where they stand for no batches of a node, by the tests of `mount`, and Full where its
+    /// journal would be longer than one may be. What the disk held is lost, and after Disk it holds anything.
     pub fn import<D: Disk>(alloc: Global, disk: &mut D, bytes: &[u8]) -> Result<Node, ImportError>
-        ensures imported { IsTrue D.tells →
-            IfOk result (λ node. Imports bytes.now (D.told disk.new).past node.stored) }
-        ensures none { IsTrue D.tells → result ≡ Err BytesAreNone → IsNoNodeBefore bytes.now }
+        ensures imported { IfOk result (λ node. Imports D.tells bytes.now (D.told disk.new).past node.stored) }
+        ensures none { result ≡ Err BytesAreNone → IsNoNodeBefore bytes.now }
 
         // A journal that would be longer than one may be is refused, also where no node's batches are in it.
         ensures short { is_ok result ≡ true → (entries : List (List ℕ)) → StandsAsBefore entries bytes.now →
@@ -139,8 +139,14 @@ impl Node {
         ensures refusals { IfErr result (λ error. (error ≡ LacksMemory) ⊎ (error ≡ DiskFailed) ⊎ (error ≡ BytesAreNone)
             ⊎ IsTooLong bytes.now error) }
 
+        // Each answer but Ok and Disk comes before any device call.
+        ensures untouched { IsTrue D.tells → IfErr result (λ error. error ≢ DiskFailed →
+            ((D.told disk.new).past ≡ (D.told disk.old).past) × ((D.told disk.new).fuse ≡ (D.told disk.old).fuse)) }
+
         ensures up { IfOk result (λ node. node.stored.journal.is_down ≡ false) }
         ensures kept { IfOk result (λ node. Keeps node.kept (first_kept node.stored.records)) }
+        ensures fuse { IsTrue D.tells → (is_ok result ≡ true) ⊎ (import_failed result ≡ true) →
+            Burns 3 (D.told disk.old).fuse (D.told disk.new).fuse (is_ok result) }
         ensures unarmed { IsTrue D.tells →
             KeepsUnarmed (D.told disk.old).fuse (D.told disk.new).fuse (import_failed result) }
         ensures cause { HasCause (D.told disk.old).faults (D.told disk.new).faults (import_failed result) }
@@ -148,11 +154,11 @@ impl Node {
     {
         a_node_has_room_for_its_keys();
         what_waits_stays_exact();
-        let store = Store::import(alloc, disk, bytes)?;
         let mut kept = match Kept::first(alloc) {
             Ok(kept) => kept,
             Err(_) => return Err(ImportError::Memory),
         };
+        let store = Store::import(alloc, disk, bytes)?;
         fill(&mut kept.timers, store.tables());
         Ok(Node { alloc, store, kept })
     }
