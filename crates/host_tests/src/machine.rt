@@ -20,16 +20,21 @@ fn words_of(alloc: Global, given: &[&[u8]]) -> Result<Items<Blob>, Memory> {
     Ok(words)
 }
 
-// The status of a command that reads nothing, and what it wrote.
-fn ran(alloc: Global, machine: &mut Machine, given: &[&[u8]]) -> Result<(u8, MemSink), Memory> {
+// The status of a command that reads this input, and what it wrote.
+fn ran(
+    alloc: Global,
+    machine: &mut Machine,
+    given: &[&[u8]],
+    input: &[u8],
+) -> Result<(u8, MemSink), Memory> {
     let words = words_of(alloc, given)?;
-    let mut input = MemSource::new(Blob::new(alloc), Numbers::new(alloc));
+    let mut input = MemSource::new(Blob::from_slice(alloc, input)?, Numbers::new(alloc));
     let mut out = MemSink::new(alloc, Numbers::new(alloc));
     let status = run(alloc, words.as_slice(), &mut input, &mut out, machine);
     Ok((status, out))
 }
 
-/// Whether a command has this status and writes this text.
+/// Whether a command that reads nothing has this status and writes this text.
 pub(crate) fn prints(
     alloc: Global,
     machine: &mut Machine,
@@ -37,7 +42,19 @@ pub(crate) fn prints(
     status: u8,
     text: &[u8],
 ) -> Result<bool, Memory> {
-    let (ended, out) = ran(alloc, machine, given)?;
+    let (ended, out) = ran(alloc, machine, given, b"")?;
+    Ok((ended == status) & (out.as_slice() == text))
+}
+
+/// Whether `import` has this status with this input, and writes this text.
+pub(crate) fn imports(
+    alloc: Global,
+    machine: &mut Machine,
+    input: &[u8],
+    status: u8,
+    text: &[u8],
+) -> Result<bool, Memory> {
+    let (ended, out) = ran(alloc, machine, &[b"import"], input)?;
     Ok((ended == status) & (out.as_slice() == text))
 }
 

@@ -24,28 +24,35 @@ some-bytes None = ([], tt)
 some-bytes (Some all) = (all, refl)
 
 -- why no node is made, as the command ends
-pub not-made : {T : Type 0} (tells : Bool) (bytes : List ℕ) (e : ImportError)
+pub not-made : {T : Type 0} (bytes : List ℕ) (e : ImportError)
     → (e ≡ import.Memory) ⊎ ((e ≡ import.Disk) ⊎ ((e ≡ import.NotAJournal) ⊎ IsTooLong bytes e))
     → (◌≡◌ {A = Result T ImportError} (Err e) (Err import.NotAJournal) → IsShort bytes)
-    → (IsTrue tells → ◌≡◌ {A = Result T ImportError} (Err e) (Err import.NotAJournal) → IsNoNodeBefore bytes)
-    → IsNotMade tells bytes (import_end e)
-not-made tells bytes import.Memory which short none = tt
-not-made tells bytes import.Disk which short none = tt
-not-made tells bytes import.NotAJournal which short none = (short refl, λ t. none t refl)
-not-made tells bytes (import.Full end needed) (inl same) short none = absurd cc
-not-made tells bytes (import.Full end needed) (inr (inl same)) short none = absurd cc
-not-made tells bytes (import.Full end needed) (inr (inr (inl same))) short none = absurd cc
-not-made tells bytes (import.Full end needed) (inr (inr (inr long))) short none = long
+    → (◌≡◌ {A = Result T ImportError} (Err e) (Err import.NotAJournal) → IsNoNodeBefore bytes)
+    → IsNotMade bytes (import_end e)
+not-made bytes import.Memory which short none = tt
+not-made bytes import.Disk which short none = tt
+not-made bytes import.NotAJournal which short none = (short refl, none refl)
+not-made bytes (import.Full end needed) (inl same) short none = absurd cc
+not-made bytes (import.Full end needed) (inr (inl same)) short none = absurd cc
+not-made bytes (import.Full end needed) (inr (inr (inl same))) short none = absurd cc
+not-made bytes (import.Full end needed) (inr (inr (inr long))) short none = long
+
+-- no fault of the disk is told as one only where it was none
+pub no-fault : (e : ImportError) → import_end e ≢ end.DiskFault → e ≢ import.Disk
+no-fault e other same = other (ap import_end same)
 
 -- and as import does
-pub fails-so : (tells : Bool) (first now : Told) (bytes : List ℕ) (e : End) → IsNotMade tells bytes e
-    → (IsTrue tells → seen_of first.past ≡ []) → FailsToImport tells first now bytes e
-fails-so tells first now bytes end.NotEmpty not empty = absurd not
-fails-so tells first now bytes end.ReadFault not empty = absurd not
-fails-so tells first now bytes end.TooLong not empty = absurd not
-fails-so tells first now bytes (end.Refused why) not empty = (not, empty)
-fails-so tells first now bytes end.NotAJournal not empty = (not.0, λ t. (not.1 t, empty t))
-fails-so tells first now bytes e not empty = not
+pub fails-so : (tells : Bool) (first now : Told) (bytes : List ℕ) (e : End) → IsNotMade bytes e
+    → (IsTrue tells → seen_of first.past ≡ []) → (IsTrue tells → e ≢ end.DiskFault → now.past ≡ first.past)
+    → FailsToImport tells first now bytes e
+fails-so tells first now bytes end.NotEmpty not empty same = absurd not
+fails-so tells first now bytes end.ReadFault not empty same = absurd not
+fails-so tells first now bytes end.TooLong not empty same = absurd not
+fails-so tells first now bytes (end.Refused why) not empty same =
+    (not, λ t. (empty t, same t (λ (is : end.Refused why ≡ end.DiskFault). cc)))
+fails-so tells first now bytes end.NotAJournal not empty same =
+    (not.0, not.1, λ t. (empty t, same t (λ (is : end.NotAJournal ≡ end.DiskFault). cc)))
+fails-so tells first now bytes e not empty same = not
 
 -- the disk is not empty, or it failed
 pub unempty : {T : Type 0} (tells : Bool) (first now : Told) (bytes : List ℕ) (e : End)
@@ -58,9 +65,9 @@ unempty tells first now bytes e (inl same) full = absurd cc
 unempty tells first now bytes e (inr same) full = absurd cc
 
 -- an entry for each batch
-pub brings-so : (bytes : List ℕ) (now : List Call) (store : Stored) (n : ℕ) → Imports bytes now store
-    → n ≡ length store.journal.gates → Brings bytes now n
-brings-so bytes now store n imports counted = record {
+pub brings-so : (tells : Bool) (bytes : List ℕ) (now : List Call) (store : Stored) (n : ℕ)
+    → Imports tells bytes now store → n ≡ length store.journal.gates → Brings tells bytes now n
+brings-so tells bytes now store n imports counted = record {
   store = store;
   imports = imports;
   entries = counted ∙ ap (λ (j : JournalState). length j.gates) imports.journal

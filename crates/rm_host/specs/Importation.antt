@@ -24,10 +24,10 @@ abbrev pub IsOverlong : List ℕ → Cause → Type 0
 IsOverlong bytes (cause.StoreFull end needed) = IsTooLong bytes (Full end needed)
 IsOverlong bytes _ = ⊥
 
--- bytes stood for so many batches of a node by the layout before, one an entry, and the disk has them now
-pub record Brings (bytes : List ℕ) (now : List Call) (count : ℕ) : Type 0 where
+-- bytes stood for so many batches of a node by the layout before, one an entry, and a disk that tells has them now
+pub record Brings (tells : Bool) (bytes : List ℕ) (now : List Call) (count : ℕ) : Type 0 where
   pub store : Stored
-  pub imports : Imports bytes now store
+  pub imports : Imports tells bytes now store
   pub entries : count ≡ length imports.batches
 
 -- A disk that had nothing was made that of the node whose journal the bytes were. What is printed is how many entries
@@ -36,27 +36,31 @@ pub record Imported (tells : Bool) (first now : Told) (bytes text : List ℕ) : 
   pub empty : IsTrue tells → seen_of first.past ≡ []
   pub short : IsShort bytes
   pub count : ℕ
-  pub brings : IsTrue tells → Brings bytes now.past count
+  pub brings : Brings tells bytes now.past count
   pub line : text ≡ imported_line count
 
 -- why no node was made of bytes, where it was no fault of the disk and no want of memory
-abbrev pub IsNotMade : Bool → List ℕ → End → Type 0
-IsNotMade tells bytes (end.Refused why) = IsOverlong bytes why
-IsNotMade tells bytes end.NotAJournal = IsShort bytes × (IsTrue tells → IsNoNodeBefore bytes)
-IsNotMade tells bytes end.DiskFault = Unit {0}
-IsNotMade tells bytes end.Memory = Unit {0}
-IsNotMade tells bytes _ = ⊥
+abbrev pub IsNotMade : List ℕ → End → Type 0
+IsNotMade bytes (end.Refused why) = IsOverlong bytes why
+IsNotMade bytes end.NotAJournal = IsShort bytes × IsNoNodeBefore bytes
+IsNotMade bytes end.DiskFault = Unit {0}
+IsNotMade bytes end.Memory = Unit {0}
+IsNotMade bytes _ = ⊥
+
+-- a disk that had nothing still has nothing: no call changed it
+abbrev pub StaysEmpty : (first now : Told) → Type 0
+StaysEmpty first now = (seen_of first.past ≡ []) × (now.past ≡ first.past)
 
 -- Why import fails: the disk had bytes; the input was not read, and the disk is as it was; or the bytes make no node,
--- which is told of a disk that had nothing.
+-- which is told of a disk that had nothing, and still has.
 abbrev pub FailsToImport : Bool → (first now : Told) → List ℕ → End → Type 0
 FailsToImport tells first now bytes end.NotEmpty = IsTrue tells → seen_of first.past ≢ []
 FailsToImport tells first now bytes end.ReadFault = now ≡ first
 FailsToImport tells first now bytes end.TooLong = now ≡ first
-FailsToImport tells first now bytes (end.Refused why) = IsOverlong bytes why × (IsTrue tells → seen_of first.past ≡ [])
+FailsToImport tells first now bytes (end.Refused why) = IsOverlong bytes why × (IsTrue tells → StaysEmpty first now)
 FailsToImport tells first now bytes end.NotAJournal =
-    IsShort bytes × (IsTrue tells → IsNoNodeBefore bytes × (seen_of first.past ≡ []))
-FailsToImport tells first now bytes e = IsNotMade tells bytes e
+    IsShort bytes × IsNoNodeBefore bytes × (IsTrue tells → StaysEmpty first now)
+FailsToImport tells first now bytes e = IsNotMade bytes e
 
 -- what import answers of these bytes
 abbrev pub ImportsBytes : Bool → (first now : Told) → List ℕ → Result (List ℕ) End → Type 0

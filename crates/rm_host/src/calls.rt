@@ -1,5 +1,5 @@
 //! What commands do with the node of a host. Each error is the end of a command.
-ghost use Rattle.std.specs.Prelude.{◌≡◌, ◌⊎◌, ◌<◌, ◌≤◌, ◌^◌, ◌+◌, List, Result, length, true, false, Err, None};
+ghost use Rattle.std.specs.Prelude.{◌≡◌, ◌≢◌, ◌⊎◌, ◌<◌, ◌≤◌, ◌^◌, ◌+◌, List, Result, length, true, false, Err, None};
 ghost use Rattle.std.specs.Prelude.{IfErr, IfOk, OnOk, IsTrue, is_ok};
 ghost use Rattle.node_store.specs.Changes.{WasNotMade};
 ghost use Rattle.node_store.specs.Imported.{Imports};
@@ -69,10 +69,11 @@ pub(crate) fn import_node<D: Disk, L: Link, C>(
     host: &mut Host<D, L, C>,
     bytes: &[u8],
 ) -> Result<Node, End>
-    ensures imports { IsTrue D.tells → IfOk result (λ node.
-        Imports bytes.now (D.told host.new.disk).past node.stored) }
+    ensures imports { IfOk result (λ node. Imports D.tells bytes.now (D.told host.new.disk).past node.stored) }
     ensures short { is_ok result ≡ true → IsShort bytes.now }
-    ensures why { IfErr result (IsNotMade D.tells bytes.now) }
+    ensures why { IfErr result (IsNotMade bytes.now) }
+    ensures untouched { IsTrue D.tells → IfErr result (λ end. end ≢ End.DiskFault →
+        (D.told host.new.disk).past ≡ (D.told host.old.disk).past) }
     ensures link { L.told host.new.link ≡ L.told host.old.link }
     ensures reason { HasReason (faults_of D.told L.told host.old) (faults_of D.told L.told host.new) result }
     ensures inner { is_outer result ≡ false }

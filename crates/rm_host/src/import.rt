@@ -16,7 +16,7 @@ use rm_link::Link;
 use std::alloc::Global;
 
 /// Reads a journal of the layout before, to the end of the input, and makes an empty disk that of its node. After a
-/// fault of the disk, want of memory, and where the bytes make no node, an empty disk holds anything.
+/// fault of the disk and want of memory an empty disk holds anything; where the bytes make no node it stays empty.
 pub fn import<D: Disk, L: Link, C: Clock, S: Source>(
     alloc: Global,
     host: &mut Host<D, L, C>,

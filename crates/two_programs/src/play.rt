@@ -115,7 +115,7 @@ pub fn refuse(rt: &HostRuntime) -> io::Result<()> {
 }
 
 /// Sends a message, and brings each node to a new folder, by its journal in the layout before: it is there as it was. A
-/// journal whose entry is no batch is none.
+/// journal whose entry is no batch is none, and leaves its folder free for another node.
 pub fn import(rt: &HostRuntime) -> io::Result<()> {
     let (server, client) = nodes(rt)?;
     let serving = command(rt, &server, &["serve", "18473", "2", "dfg"])?
@@ -128,6 +128,7 @@ pub fn import(rt: &HostRuntime) -> io::Result<()> {
     forget(rt, &server, &client)?;
     let folder = folder(rt, "moved")?;
     tell(rt, run(rt, &folder, &["import"], NO_BATCH)?)?;
+    tell(rt, run(rt, &folder, &["make", "1", SERVER], b"")?)?;
     fs::remove_dir_all(rt, &folder)
 }
 

@@ -3,16 +3,23 @@ use Rattle.std.proofs.lemmas.Result.{err_from_is_err_and}
 use Rattle.rm_host.specs.Ends.{HasReason, faults_of, is_outer}
 use Rattle.rm_host.specs.Importation.{IsNotMade}
 use Rattle.rm_host.proofs.EndLemmas.{import-fails, import-inner}
-use Rattle.rm_host.proofs.ImportationLemmas.{not-made}
+use Rattle.rm_host.proofs.ImportationLemmas.{no-fault, not-made}
 use Rattle.rm_host.proofs.calls.import_node.Goals as goal
 
 pub returns-in_err-import-clause-why : goal.returns-in_err-import-clause-why
 returns-in_err-import-clause-why g c =
     let p = err_from_is_err_and c.from_residual.result c.from_residual.ensures.1 in
     let e = c.in_err-import.field-0.0 in
-    rw p.1 (subst (IsNotMade g.D.Disk.tells c.args.bytes.now) (sym p.2)
-    (not-made g.D.Disk.tells c.args.bytes.now e c.in_err-import.ensures.refusals
+    rw p.1 (subst (IsNotMade c.args.bytes.now) (sym p.2)
+    (not-made c.args.bytes.now e c.in_err-import.ensures.refusals
     c.in_err-import.ensures.none_short c.in_err-import.ensures.none))
+
+pub returns-in_err-import-clause-untouched : goal.returns-in_err-import-clause-untouched
+returns-in_err-import-clause-untouched g c tells =
+    let p = err_from_is_err_and c.from_residual.result c.from_residual.ensures.1 in
+    let e = c.in_err-import.field-0.0 in
+    rw p.1 (λ other. (c.in_err-import.ensures.untouched tells
+    (no-fault e (λ same. other (p.2 ∙ same)))).0)
 
 pub returns-in_err-import-clause-reason : goal.returns-in_err-import-clause-reason
 returns-in_err-import-clause-reason g c =

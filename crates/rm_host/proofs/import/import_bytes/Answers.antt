@@ -29,7 +29,8 @@ returns-in_err-node-clause-imports g c =
     let now = told c.import_node.new.host.disk in
     subst (λ x. ImportsBytes g.D.Disk.tells first now c.args.bytes.now x) (sym (p.1 ∙ ap Err p.2))
     (fails-so g.D.Disk.tells first now c.args.bytes.now c.in_err-node.field-0.0 c.in_err-node.ensures.why
-    c.in_ok-check_empty.ensures.empty)
+    c.in_ok-check_empty.ensures.empty
+    (λ tells other. c.in_err-node.ensures.untouched tells other ∙ c.in_ok-check_empty.ensures.past tells))
 
 pub returns-in_err-node-clause-spared : goal.returns-in_err-node-clause-spared
 returns-in_err-node-clause-spared g c tells = inl (c.in_ok-check_empty.ensures.empty tells)
@@ -51,8 +52,8 @@ returns-clause-imports g c = record {
   empty = c.in_ok-check_empty.ensures.empty;
   short = c.in_ok-node.ensures.short refl;
   count = c.entries.result;
-  brings = λ tells. brings-so c.args.bytes.now (g.D.Disk.told c.import_node.new.host.disk).past c.in_ok-node.node.stored
-      c.entries.result (c.in_ok-node.ensures.imports tells) c.entries.ensures;
+  brings = brings-so g.D.Disk.tells c.args.bytes.now (g.D.Disk.told c.import_node.new.host.disk).past
+      c.in_ok-node.node.stored c.entries.result c.in_ok-node.ensures.imports c.entries.ensures;
   line = c.in_ok-imported_text.ensures;
 }
 
