@@ -69,7 +69,7 @@ found-append f k (m ∷ ms) ns s e =
       | false ↦ λ h. found-append f (suc k) ms ns s h
     ] e
 
-first-add : (test : Option Maker → Bool) (r d : List Fact) (s : ℕ) → find_from (tested test) 0 (makers r) ≡ Some s
+pub first-add : (test : Option Maker → Bool) (r d : List Fact) (s : ℕ) → find_from (tested test) 0 (makers r) ≡ Some s
     → find_from (tested test) 0 (makers (r ++ d)) ≡ Some s
 first-add test r d s e = ap (find_from (tested test) 0) (flat_map-append makers_of r d)
     ∙ found-append (tested test) 0 (makers r) (makers d) s e
@@ -129,7 +129,7 @@ still b d out same on (inr r) = inr (record {
       (prefix-texts (released b r.from) (released (b ++ d) r.from) (on r.from).released_));
 })
 
-same-some : {A : Type 0} (o : Option A) (x y : A) → o ≡ Some x → o ≡ Some y → x ≡ y
+pub same-some : {A : Type 0} (o : Option A) (x y : A) → o ≡ Some x → o ≡ Some y → x ≡ y
 same-some o x y e f = cc
 
 one-accepted : (out : ℕ) (p : Text) → accepted (Accepted out p ∷ []) out ≡ p ∷ []

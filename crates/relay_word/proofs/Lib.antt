@@ -7,4 +7,5 @@ mod RoleLemmas
 mod SoundLemmas
 mod StepLemmas
 mod StrangeLemmas
+mod TrimLemmas
 mod WorldLemmas

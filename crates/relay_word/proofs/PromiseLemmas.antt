@@ -1,16 +1,15 @@
 -- A relay keeps its word at each three images.
-use Rattle.std.proofs.Common.{◌≡◌, ℕ, Bool, true, false, List, [], ◌∷◌, ◌++◌, sym, ap, ◌∙◌, subst}
-use Rattle.std.proofs.Common.{append-nil}
-use Rattle.std.proofs.Common.{inl, inr}
+use Rattle.std.proofs.Common.{◌≡◌, ◌≤◌, ◌+◌, ℕ, arith, length, Bool, true, false, List, [], ◌∷◌, ◌++◌, sym, ap, ◌∙◌}
+use Rattle.std.proofs.Common.{subst, append-nil, inl, inr}
 use Rattle.std.specs.Prelude.{Option, Some}
 use Rattle.std.proofs.lemmas.List.Concat.{flat_map-append}
 use Rattle.record_batch.specs.Fact.{Fact}
 use Rattle.record_snapshot.specs.Snapshot.{snapshot}
-use Rattle.sequence_table.specs.Destinations.{released, texts}
+use Rattle.sequence_table.specs.Destinations.{cursor, released, texts}
 use Rattle.sequence_table.specs.Find.{IsIncoming, find_from, incoming_of}
-use Rattle.sequence_table.specs.Fits.{is_incoming_side}
+use Rattle.sequence_table.specs.Fits.{is_incoming_side, is_outgoing_side}
 use Rattle.sequence_table.specs.Makers.{Maker, Outgoing, Offered, Incoming, Taken, maker, makers, number}
-use Rattle.sequence_table.specs.Sources.{accepted}
+use Rattle.sequence_table.specs.Sources.{accepted, accepted_count}
 use Rattle.sequence_table.specs.Words.{Text}
 use Rattle.rm_protocol.specs.AloneLemmas.{records-alone}
 use Rattle.rm_protocol.specs.Crashes.{IsLeft, IsLeftWith}
@@ -20,7 +19,7 @@ use Rattle.rm_protocol.specs.Pair.{IsBetweenThem, MadeAreAPair}
 use Rattle.rm_protocol.specs.Sound.{IsIssuedBy, Keeps}
 use Rattle.rm_protocol.specs.Terms.{AreTerms, Terms}
 use Rattle.rm_protocol.specs.Word.{IsPrefixOf, Matches}
-use Rattle.relay_word.specs.Ends.{AreEnds, first_incoming}
+use Rattle.relay_word.specs.Ends.{AreEnds, IsAhead, first_incoming, first_outgoing}
 use Rattle.relay_word.specs.Roles.{IsOfRole}
 use Rattle.relay_word.specs.Word.{EachRelayKeepsItsWord, KeepsAll, KeepsRelay, KeepsWord}
 use Rattle.relay_word.specs.World.{World, Crash, happens, number_of, run, start}
@@ -30,7 +29,7 @@ use Rattle.relay_word.proofs.ForwardLemmas.{prefix-then}
 use Rattle.relay_word.proofs.OrderLemmas.{ordered}
 use Rattle.relay_word.proofs.ReleasedLemmas.{has-released}
 use Rattle.relay_word.proofs.SoundLemmas.{Saids}
-use Rattle.relay_word.proofs.StepLemmas.{happens-sound, run-sound, start-sound}
+use Rattle.relay_word.proofs.StepLemmas.{happens-sound, none-dropped, run-sound, start-sound}
 use Rattle.relay_word.proofs.StrangeLemmas.{role-of}
 use Rattle.relay_word.proofs.WorldLemmas.{Laws, Sound, fronts, rears}
 
@@ -96,6 +95,24 @@ module _ (laws : Laws) (terms : Terms) (w : World) (said : Saids) (h : Sound ter
         (same-first is_incoming_side into ends.incoming)) r.prefix
   ]
 
+  count-two : (out : ℕ) → accepted_count (records w.two) out ≡ length (accepted w.two.whole out)
+  count-two out =
+      let none : 0 + length (accepted w.two.whole out) ≡ length (accepted w.two.whole out) = omega arith in
+      (keeps-two.same.sent out).count
+      ∙ ap (λ (n : ℕ). n + length (accepted w.two.whole out)) (none-dropped w.two.whole out keeps-two.live) ∙ none
+
+  ahead : (into out : ℕ) → AreEnds (records w.two) into out → IsAhead (records w.two) into out
+  ahead into out ends =
+      let same : cursor (records w.two) into ≡ cursor w.two.whole into = (keeps-two.same.got into).cursor_ in
+      let few : cursor w.two.whole into ≤ length (accepted w.two.whole out) =
+      elim (h.trimmed into) [
+        | inl none ↦ omega (arith, none)
+        | inr r ↦ subst (λ (o : ℕ). cursor w.two.whole into ≤ length (accepted w.two.whole o))
+            (same-seq (first_outgoing w.two.whole) r.out out r.outgoing
+            (same-first is_outgoing_side out ends.outgoing)) r.ahead
+      ] in
+      omega (arith, same, few, count-two out)
+
   relayed : (s into out t : ℕ) → AreEnds (records w.two) into out → Matches w.one.whole w.two.whole s into
       → Matches w.two.whole w.three.whole out t
       → IsPrefixOf (texts (released w.three.whole t)) (accepted w.one.whole s)
@@ -121,6 +138,7 @@ module _ (laws : Laws) (terms : Terms) (w : World) (said : Saids) (h : Sound ter
       has-released (records w.three) w.three.whole t h.rear.two.stands.kept h.rear.two.numbered,
     );
     forwarded = forwarded;
+    ahead = ahead;
     relayed = relayed;
   }
 

@@ -1,5 +1,5 @@
 -- Each line of a relay's script keeps what holds of the three nodes.
-use Rattle.std.proofs.Common.{◌≡◌, ◌⊎◌, ◌+◌, ℕ, Bool, List, [], ◌∷◌}
+use Rattle.std.proofs.Common.{◌≡◌, ◌⊎◌, ◌≤◌, ◌+◌, ℕ, Bool, List, [], ◌∷◌}
 use Rattle.std.proofs.Common.{length}
 use Rattle.std.proofs.Common.{refl, sym, ap, ◌∙◌, subst, arith, inl, inr}
 use Rattle.std.specs.Prelude.{Option, Some, None, Result, Ok, Err}
@@ -10,7 +10,7 @@ use Rattle.rm_message.specs.declared.message.Message.{Message}
 use Rattle.rm_message.specs.declared.refusal.Refusal.{Refusal}
 use Rattle.rm_script.specs.declared.event.Side.{Side}
 use Rattle.rm_script.specs.declared.event.Side.TheVariants as side
-use Rattle.record_batch.specs.Fact.{Fact, Accepted, Dropped}
+use Rattle.record_batch.specs.Fact.{Fact, Accepted, Consumed, Dropped}
 use Rattle.rm_destination.specs.Messages.{item_at}
 use Rattle.sequence_table.specs.Destinations.{inbox}
 use Rattle.sequence_table.specs.Find.{find_from}
@@ -44,6 +44,7 @@ use Rattle.relay_word.proofs.RoleLemmas.{RoleAct, all-weaker}
 use Rattle.relay_word.proofs.RoleLemmas.{batch-role, heard-roles, refused-role}
 use Rattle.relay_word.proofs.SoundLemmas.{IsRight, Saids, said_at}
 use Rattle.relay_word.proofs.StrangeLemmas.{all-numbered, behind-before, strange}
+use Rattle.relay_word.proofs.TrimLemmas.{IsNoConsume, MayTrim, acknowledged-few}
 use Rattle.relay_word.proofs.WorldLemmas.{Befalls, Laws, Sound, fronts, known-at, moves-sound}
 use Rattle.relay_word.proofs.WorldLemmas.{rears, says-at, wholes}
 
@@ -88,6 +89,47 @@ batch-none Compacts n d h = all-weaker IsQuiet IsNoAccept quiet-none d h
 batch-none (Arms calls) n d h = all-weaker IsQuiet IsNoAccept quiet-none d h
 batch-none (Crashes kept) n d h = all-weaker IsQuiet IsNoAccept quiet-none d h
 
+-- ---- which batches consume nothing
+
+quiet-still : (rec : Fact) → IsQuiet rec → IsNoConsume rec
+quiet-still (Consumed s upto) h = absurd h
+quiet-still _ h = tt
+
+wished-still : (wish : Wish) (rec : Fact) → IsWished wish rec → IsNoConsume rec
+wished-still wish (Consumed s upto) h = absurd h
+wished-still wish _ h = tt
+
+heard-still : (m : Message) (rec : Fact) → Heard m rec → IsNoConsume rec
+heard-still m (Consumed s upto) h = absurd h
+heard-still m _ h = tt
+
+come-still : (content : Result Message Refusal) (rec : Fact) → Brings (Receives content) rec → IsNoConsume rec
+come-still (Ok m) rec h = heard-still m rec h
+come-still (Err refusal) rec h = quiet-still rec h
+
+-- nothing is taken from an inbox
+abbrev IsNoTake : Act → Type 0
+IsNoTake (Consumes seq upto) = ⊥
+IsNoTake _ = Unit {0}
+
+batch-still : (act : Act) → IsNoTake act → (d : List Fact) → AreBrought act d → AllByRecursion IsNoConsume d
+batch-still (Creates wish) n d h = all-weaker (IsWished wish) IsNoConsume (wished-still wish) d h
+batch-still (Grants behaviour) n d h = all-weaker IsQuiet IsNoConsume quiet-still d h
+batch-still (Sends seq text) n d (inl e) = subst (AllByRecursion IsNoConsume) (sym e) tt
+batch-still (Sends seq text) n d (inr e) = subst (AllByRecursion IsNoConsume) (sym e) (tt, tt)
+batch-still (Ticks now) n d h = all-weaker IsQuiet IsNoConsume quiet-still d h
+batch-still (Closes seq) n d h = all-weaker IsQuiet IsNoConsume quiet-still d h
+batch-still (Ends seq) n d h = all-weaker IsQuiet IsNoConsume quiet-still d h
+batch-still (AsksAck seq) n d h = all-weaker IsQuiet IsNoConsume quiet-still d h
+batch-still (NacksMissing seq) n d h = all-weaker IsQuiet IsNoConsume quiet-still d h
+batch-still (Polls to) n d h = all-weaker IsQuiet IsNoConsume quiet-still d h
+batch-still (Consumes seq upto) n d h = absurd n
+batch-still (Receives content) n d h =
+    all-weaker (Brings (Receives content)) IsNoConsume (come-still content) d h
+batch-still Compacts n d h = all-weaker IsQuiet IsNoConsume quiet-still d h
+batch-still (Arms calls) n d h = all-weaker IsQuiet IsNoConsume quiet-still d h
+batch-still (Crashes kept) n d h = all-weaker IsQuiet IsNoConsume quiet-still d h
+
 -- ---- what a line asks of a node
 
 -- it may befall a node beside any other
@@ -99,7 +141,7 @@ no-grant at (Grants behaviour) role = absurd role
 no-grant at _ role = tt
 
 befalls : (w : World) (said : Saids) (at : Station) (act : Act) → RoleAct at act → IsFree act
-    → (at ≡ Two → IsNoSend act) → Befalls w said at act
+    → (at ≡ Two → IsNoSend act × IsNoTake act) → Befalls w said at act
 befalls w said at act role free none = record {
   may = record {
     prior = λ z e. free (wholes w at) (wholes w z) (said_at said z);
@@ -107,7 +149,8 @@ befalls w said at act role free none = record {
   };
   role = λ d h just. batch-role at act role d h;
   no_grant = no-grant at act role;
-  relays = λ e d h. inl (batch-none act (none e) d h);
+  relays = λ e d h. inl (batch-none act (none e).0 d h);
+  trims = λ e d h. inl (batch-still act (none e).1 d h);
 }
 
 -- ---- a packet
@@ -128,7 +171,7 @@ drops-none [] s h = refl
 drops-none (Dropped u upto ∷ r) s h = absurd h.0
 drops-none (rec ∷ r) s h = drops-none r s h.1
 
-none-dropped : (r : List Fact) (s : ℕ) → NothingIsGone r → dropped r s ≡ 0
+pub none-dropped : (r : List Fact) (s : ℕ) → NothingIsGone r → dropped r s ≡ 0
 none-dropped r s h = ap (last_or 0) (drops-none r s h)
 
 module _ (laws : Laws) (terms : Terms) (w : World) (said : Saids) (t : AreTerms terms) (h : Sound terms w said) where
@@ -179,6 +222,7 @@ module _ (laws : Laws) (terms : Terms) (w : World) (said : Saids) (t : AreTerms 
             (λ f. just p.from (behind-before p.from p.to f));
         no_grant = tt;
         relays = λ f d brought. inl (batch-none (Receives (Ok p.message)) tt d brought);
+        trims = λ f d brought. inl (batch-still (Receives (Ok p.message)) tt d brought);
       })
   comes p content right (inr e) =
       subst (λ c. Befalls w said p.to (Receives c)) (sym e.1) (record {
@@ -186,6 +230,7 @@ module _ (laws : Laws) (terms : Terms) (w : World) (said : Saids) (t : AreTerms 
         role = λ d brought just. refused-role p.to d brought;
         no_grant = tt;
         relays = λ f d brought. inl (batch-none (Receives (Err e.0)) tt d brought);
+        trims = λ f d brought. inl (batch-still (Receives (Err e.0)) tt d brought);
       })
 
   -- ---- what node 2 forwards
@@ -227,7 +272,7 @@ module _ (laws : Laws) (terms : Terms) (w : World) (said : Saids) (t : AreTerms 
       → IsSoundStill (moves terms w at back act)
   moved at back act b = (_, moves-sound laws terms w said t h at back act b)
 
-  asked : (at : Station) (act : Act) → RoleAct at act → IsFree act → (at ≡ Two → IsNoSend act)
+  asked : (at : Station) (act : Act) → RoleAct at act → IsFree act → (at ≡ Two → IsNoSend act × IsNoTake act)
       → IsSoundStill (moves terms w at None act)
   asked at act role free none = moved at None act (befalls w said at act role free none)
 
@@ -240,6 +285,7 @@ module _ (laws : Laws) (terms : Terms) (w : World) (said : Saids) (t : AreTerms 
     role = λ d brought just. batch-role Two (Sends out p.bytes) tt d brought;
     no_grant = tt;
     relays = λ k d brought. forwarding into out p d e f g brought;
+    trims = λ k d brought. inl (batch-still (Sends out p.bytes) tt d brought);
   })
 
   forwards-sound : (into out : Option ℕ) → first_incoming (records w.two) ≡ into
@@ -249,11 +295,35 @@ module _ (laws : Laws) (terms : Terms) (w : World) (said : Saids) (t : AreTerms 
   forwards-sound (Some into) None e f = (said, h)
   forwards-sound None out e f = (said, h)
 
-  trims-sound : (into out : Option ℕ) → IsSoundStill (moves_two terms w (trims (records w.two) into out))
-  trims-sound (Some into) (Some out) =
-      asked Two (Consumes into (acknowledged (records w.two) out)) tt (λ a b s. tt) (λ e. tt)
-  trims-sound (Some into) None = (said, h)
-  trims-sound None out = (said, h)
+  -- what is acknowledged was accepted
+  taking : (into out : ℕ) (d : List Fact) → first_incoming (records w.two) ≡ Some into
+      → first_outgoing (records w.two) ≡ Some out
+      → AreBrought (Consumes into (acknowledged (records w.two) out)) d → MayTrim w.two.whole d
+  taking into out d e f brought = inr (record {
+    from = into;
+    out = out;
+    upto = acknowledged (records w.two) out;
+    each = brought;
+    incoming = same-first is_incoming_side into e;
+    outgoing = same-first is_outgoing_side out f;
+    within = subst (λ (n : ℕ). acknowledged (records w.two) out ≤ n) (count-two out)
+        (acknowledged-few laws.ends laws.sets laws.within (records w.two) out h.front.two.stands.fit
+        h.front.two.stands.proper);
+  })
+
+  trims-sound : (into out : Option ℕ) → first_incoming (records w.two) ≡ into
+      → first_outgoing (records w.two) ≡ out → IsSoundStill (moves_two terms w (trims (records w.two) into out))
+  trims-sound (Some into) (Some out) e f =
+      let act = Consumes into (acknowledged (records w.two) out) in
+      moved Two None act (record {
+        may = record { prior = λ z k. tt; next = λ z k. tt };
+        role = λ d brought just. batch-role Two act tt d brought;
+        no_grant = tt;
+        relays = λ k d brought. inl (batch-none act tt d brought);
+        trims = λ k d brought. taking into out d e f brought;
+      })
+  trims-sound (Some into) None e f = (said, h)
+  trims-sound None out e f = (said, h)
 
   arrived : (p : Option Packet) (k : ℕ) → numbered w.packets k ≡ p → IsSoundStill (arrives terms w p)
   arrived None k e = (said, h)
@@ -264,10 +334,10 @@ module _ (laws : Laws) (terms : Terms) (w : World) (said : Saids) (t : AreTerms 
   created : (at : Side) → IsSoundStill (moves terms w (asker at) None (Creates (wish_of at)))
   created side.One =
       asked One (Creates (wish_of side.One)) (record { next = Two; follows = refl; to_ = refl }, refl)
-      (λ a b s. tt) (λ e. tt)
+      (λ a b s. tt) (λ e. (tt, tt))
   created side.Two =
       asked Two (Creates (wish_of side.Two)) (record { next = Three; follows = refl; to_ = refl }, refl)
-      (λ a b s. tt) (λ e. tt)
+      (λ a b s. tt) (λ e. (tt, tt))
 
   pub happens-sound : (event : Event) → IsSoundStill (happens terms w event)
   happens-sound (Create at) = created at
@@ -275,14 +345,15 @@ module _ (laws : Laws) (terms : Terms) (w : World) (said : Saids) (t : AreTerms 
       asked One (Sends seq text) tt (λ a b s. tt) (λ e. absurd (cc))
   happens-sound Forward =
       forwards-sound (first_incoming (records w.two)) (first_outgoing (records w.two)) refl refl
-  happens-sound Trim = trims-sound (first_incoming (records w.two)) (first_outgoing (records w.two))
-  happens-sound (Tick at now) = asked at (Ticks now) tt (λ a b s. tt) (λ e. tt)
+  happens-sound Trim =
+      trims-sound (first_incoming (records w.two)) (first_outgoing (records w.two)) refl refl
+  happens-sound (Tick at now) = asked at (Ticks now) tt (λ a b s. tt) (λ e. (tt, tt))
   happens-sound (Deliver k) = arrived (numbered w.packets k) k refl
-  happens-sound (Close at seq) = asked at (Closes seq) tt (λ a b s. tt) (λ e. tt)
-  happens-sound (End at seq) = asked at (Ends seq) tt (λ a b s. tt) (λ e. tt)
-  happens-sound (Compact at) = asked at Compacts tt (λ a b s. tt) (λ e. tt)
-  happens-sound (Arm at calls) = asked at (Arms calls) tt (λ a b s. tt) (λ e. tt)
-  happens-sound (Crash at kept) = asked at (Crashes kept) tt (λ a b s. tt) (λ e. tt)
+  happens-sound (Close at seq) = asked at (Closes seq) tt (λ a b s. tt) (λ e. (tt, tt))
+  happens-sound (End at seq) = asked at (Ends seq) tt (λ a b s. tt) (λ e. (tt, tt))
+  happens-sound (Compact at) = asked at Compacts tt (λ a b s. tt) (λ e. (tt, tt))
+  happens-sound (Arm at calls) = asked at (Arms calls) tt (λ a b s. tt) (λ e. (tt, tt))
+  happens-sound (Crash at kept) = asked at (Crashes kept) tt (λ a b s. tt) (λ e. (tt, tt))
 
 -- ---- from the start on
 
@@ -309,4 +380,6 @@ start-sound made terms h = record {
   packets = tt;
   relayed = λ out. inl refl;
   pending = λ d e. absurd (not-writing d e);
+  trimmed = λ t. inl refl;
+  trimming = λ d e. absurd (not-writing d e);
 }

@@ -12,7 +12,10 @@ use Rattle.rm_protocol.specs.Pair.{APairTells, Act, AreBrought, Gained, IsPair}
 use Rattle.rm_protocol.specs.Pair.{IssuedByOne, MayBefall, MayGoOn, PairStep, PairsTurn, StaysAPair}
 use Rattle.rm_protocol.specs.Pair.{TellsOf}
 use Rattle.rm_protocol.specs.Pair.{acted, left}
-use Rattle.rm_protocol.specs.Sound.{Says}
+use Rattle.ack_ranges.specs.Laws.{EndsAreRight}
+use Rattle.record_snapshot.specs.Same.{IsLive, SetsUnite}
+use Rattle.rm_protocol.specs.Exact.{AckedWereAccepted}
+use Rattle.rm_protocol.specs.Sound.{NothingIsGone, Says}
 use Rattle.rm_protocol.specs.Terms.{AreTerms, Terms}
 use Rattle.relay_word.specs.Roles.{Known, before, behind}
 use Rattle.relay_word.specs.World.{number_of}
@@ -24,6 +27,7 @@ use Rattle.relay_word.proofs.KnownLemmas.{Beside, known}
 use Rattle.relay_word.proofs.RoleLemmas.{JustGranted, RoleFact, RoleNow, all-behind, allowed-just, just-all, role-step}
 use Rattle.relay_word.proofs.SoundLemmas.{IsRight, Saids, all-puts, among-from, packets-right, right-grows, said_at}
 use Rattle.relay_word.proofs.SoundLemmas.{says_more}
+use Rattle.relay_word.proofs.TrimLemmas.{HasTrimmed, MayTrim, trimmed-add}
 
 -- the laws of two nodes
 pub record Laws : Type 0 where
@@ -32,10 +36,13 @@ pub record Laws : Type 0 where
   pub tells : APairTells
   pub apart : IssuedByOne
   pub announces : AnnouncesStill
+  pub ends : EndsAreRight
+  pub sets : SetsUnite
+  pub within : AckedWereAccepted
 
 -- each node and the one behind it are a pair, and all packets are what their senders said; each node has its role; both
--- 2 and 3 announce DiscardFollowingFirstGap; and what node 2 forwarded is a prefix of what it received, with what it is
--- writing too
+-- 2 and 3 announce DiscardFollowingFirstGap; and what node 2 forwarded is a prefix of what it received, and what it
+-- consumed it had forwarded, with what it is writing too
 pub record Sound (terms : Terms) (w : World) (said : Saids) : Type 0 where
   pub front : IsPair terms 1 2 w.one w.two said.one said.two
   pub rear : IsPair terms 2 3 w.two w.three said.two said.three
@@ -47,6 +54,8 @@ pub record Sound (terms : Terms) (w : World) (said : Saids) : Type 0 where
   pub packets : AllByRecursion (IsRight said) w.packets
   pub relayed : HasRelayed w.two.whole
   pub pending : (d : List Fact) → w.two.state ≡ Writing d → MayRelay w.two.whole d
+  pub trimmed : HasTrimmed w.two.whole
+  pub trimming : (d : List Fact) → w.two.state ≡ Writing d → MayTrim w.two.whole d
 
 -- all that the node there ever had
 abbrev pub wholes : World → Station → List Fact
@@ -135,6 +144,7 @@ pub record Befalls (w : World) (said : Saids) (at : Station) (act : Act) : Type 
   pub role : HasRoleAt w at act
   pub no_grant : IsNoGrant act
   pub relays : at ≡ Two → (d : List Fact) → AreBrought act d → MayRelay w.two.whole d
+  pub trims : at ≡ Two → (d : List Fact) → AreBrought act d → MayTrim w.two.whole d
 
 -- what was added is justified beside the other node
 added-just : (terms : Terms) (n m : ℕ) (x y z : Node) (zs ys : List Message) (d : List Fact)
@@ -167,14 +177,23 @@ stepped-relay act x z g on h pending f =
     may : MayRelay x.whole g.delta
     may = elim g.from [ inl brought ↦ f g.delta brought | inr writing ↦ pending g.delta writing ]
 
-stepped-pending : (act : Act) (x z : Node) → Gained act x z
-    → ((d : List Fact) → x.state ≡ Writing d → MayRelay x.whole d)
-    → ((d : List Fact) → AreBrought act d → MayRelay x.whole d)
-    → (d : List Fact) → z.state ≡ Writing d → MayRelay z.whole d
-stepped-pending act x z g pending f d e =
+stepped-pending : (May : List Fact → List Fact → Type 0) (act : Act) (x z : Node) → Gained act x z
+    → ((d : List Fact) → x.state ≡ Writing d → May x.whole d)
+    → ((d : List Fact) → AreBrought act d → May x.whole d)
+    → (d : List Fact) → z.state ≡ Writing d → May z.whole d
+stepped-pending May act x z g pending f d e =
     let next = g.next d e in
-    subst (λ l. MayRelay l d) (sym next.0)
+    subst (λ l. May l d) (sym next.0)
     (elim next.1 [ inl brought ↦ f d brought | inr writing ↦ pending d writing ])
+
+-- what it consumed
+stepped-trim : (act : Act) (x z : Node) → Gained act x z → NothingIsGone z.whole → HasTrimmed x.whole
+    → ((d : List Fact) → x.state ≡ Writing d → MayTrim x.whole d)
+    → ((d : List Fact) → AreBrought act d → MayTrim x.whole d) → HasTrimmed z.whole
+stepped-trim act x z g live h trimming f =
+    subst HasTrimmed (sym g.is) (trimmed-add x.whole g.delta
+    (all-behind IsLive x.whole g.delta (subst NothingIsGone g.is live)) h
+    (elim g.from [ inl brought ↦ f g.delta brought | inr writing ↦ trimming g.delta writing ]))
 
 -- ---- the world after a step
 
@@ -197,6 +216,8 @@ module _ (laws : Laws) (terms : Terms) (w : World) (said : Saids) (t : AreTerms 
         step.pair.one.says) step.back);
     relayed = h.relayed;
     pending = h.pending;
+    trimmed = h.trimmed;
+    trimming = h.trimming;
   }
     where
       more : Saids
@@ -227,7 +248,12 @@ module _ (laws : Laws) (terms : Terms) (w : World) (said : Saids) (t : AreTerms 
         behind_it.pair.one.says) behind_it.back);
     relayed = stepped-relay act w.two (acted terms w.two act).node behind_it.gained behind_it.goes_on h.relayed
         h.pending (b.relays refl);
-    pending = stepped-pending act w.two (acted terms w.two act).node behind_it.gained h.pending (b.relays refl);
+    pending = stepped-pending MayRelay act w.two (acted terms w.two act).node behind_it.gained h.pending
+        (b.relays refl);
+    trimmed = stepped-trim act w.two (acted terms w.two act).node behind_it.gained
+        behind_it.pair.one.stands.kept.live h.trimmed h.trimming (b.trims refl);
+    trimming = stepped-pending MayTrim act w.two (acted terms w.two act).node behind_it.gained h.trimming
+        (b.trims refl);
   }
     where
       more : Saids
@@ -268,6 +294,8 @@ module _ (laws : Laws) (terms : Terms) (w : World) (said : Saids) (t : AreTerms 
         step.pair.one.says) step.back);
     relayed = h.relayed;
     pending = h.pending;
+    trimmed = h.trimmed;
+    trimming = h.trimming;
   }
     where
       more : Saids

@@ -8,18 +8,19 @@ use Rattle.rm_protocol.specs.Pair.{IsMade}
 use Rattle.rm_protocol.specs.Sound.{Keeps}
 use Rattle.rm_protocol.specs.Terms.{AreTerms, Terms}
 use Rattle.rm_protocol.specs.Word.{Has, IsPrefixOf, Matches, history}
-use Rattle.relay_word.specs.Ends.{AreEnds}
+use Rattle.relay_word.specs.Ends.{AreEnds, IsAhead}
 use Rattle.relay_word.specs.World.{Event, World, address_of, run, start}
 use Rattle.relay_word.specs.declared.station.Station.TheVariants.{One, Two, Three}
 
 -- Of the nodes with records a, b and c, each beside all that it ever had. What the second one ever accepted on its
 -- first outgoing sequence is a prefix of what it consumed of its first incoming one followed by the inbox past the
--- cursor; and so what the third one consumed and holds on the matching sequence is a prefix of what the first one
--- accepted.
+-- cursor; it consumed no more than it accepted there, so that the item to forward is there once it came; and so what
+-- the third one consumed and holds on the matching sequence is a prefix of what the first one accepted.
 pub record KeepsRelay (a_whole b b_whole c c_whole : List Fact) : Type 0 where
   pub second : (t : ℕ) → (all : List Payload) × Has b b_whole t all
   pub third : (t : ℕ) → (all : List Payload) × Has c c_whole t all
   pub forwarded : (into out : ℕ) → AreEnds b into out → IsPrefixOf (history b_whole out) (texts (second into).0)
+  pub ahead : (into out : ℕ) → AreEnds b into out → IsAhead b into out
   pub relayed : (s into out t : ℕ) → AreEnds b into out → Matches a_whole b_whole s into
       → Matches b_whole c_whole out t → IsPrefixOf (texts (third t).0) (history a_whole s)
 

@@ -2,9 +2,11 @@
 ghost use Rattle.relay_word.specs.Roles.{IsStrangeToTheOthers};
 ghost use Rattle.relay_word.specs.Word.{EachRelayKeepsItsWord};
 
+use ack_ranges::ends_are_right;
+use record_snapshot::laws::sets_unite;
 use rm_protocol::laws::{
     a_pair_tells, a_pair_turns, an_identifier_tells_its_node, two_made_nodes_are_a_pair,
-    two_nodes_stay_a_pair, what_is_announced_stays,
+    two_nodes_stay_a_pair, what_is_acknowledged_was_accepted, what_is_announced_stays,
 };
 
 /// What one node of a relay says is a stranger's message to each other node beside a neighbour that didn't say it.
@@ -25,4 +27,7 @@ pub fn every_relay_keeps_its_word()
     an_identifier_tells_its_node();
     two_made_nodes_are_a_pair();
     what_is_announced_stays();
+    ends_are_right();
+    sets_unite();
+    what_is_acknowledged_was_accepted();
 }

@@ -7,22 +7,23 @@ use Rattle.node_actor.specs.LeftLemmas.{left_mounted}
 use Rattle.node_actor.specs.Stands.{IsLeftOf}
 use Rattle.relay_word.specs.Word.{KeepsAll}
 use Rattle.relay_word.specs.World.{World}
-use Rattle.rm_relay.specs.Headline.{Image, KeepsPromise}
+use Rattle.rm_relay.specs.Headline.{Image, KeepsPromiseOf}
 use Rattle.rm_relay.specs.Shows.{Holds, Scene}
 
 -- bytes that a node's disk leaves are an image that keeps what the node ever had
 abbrev image_of : (x : Node) (bytes : List ℕ) (left : IsLeftOf x bytes)
-    → Keeps (records (mounted x left.kept)) (mounted x left.kept).whole → Image bytes
+    → Keeps (records (mounted x left.kept)) (mounted x left.kept).whole → Image x bytes
 image_of x bytes left kept = record {
   batches = (mounted x left.kept).entries;
   stands = record { bank = left.stands.bank; stands = left.stands.stands };
   each = left.are.each;
   whole = (mounted x left.kept).whole;
+  left = left_mounted x left.kept;
   kept = kept;
 }
 
 -- a world that keeps the word, on three disks
-pub promise_of : (w : World) (scene : Scene) → KeepsAll w → Holds w scene → KeepsPromise scene
+pub promise_of : (w : World) (scene : Scene) → KeepsAll w → Holds w scene → KeepsPromiseOf w scene
 promise_of w scene keeps holds x y z may_x may_y may_z =
     let a = holds.one x may_x in
     let b = holds.two y may_y in

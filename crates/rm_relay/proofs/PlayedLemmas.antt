@@ -13,7 +13,7 @@ use Rattle.rm_replay.specs.NetLemmas.{are_terms}
 use Rattle.relay_word.specs.Word.{AreThree, EachRelayKeepsItsWord, KeepsAll}
 use Rattle.relay_word.specs.World.{Event, World, address_of, happens, run, start}
 use Rattle.relay_word.specs.declared.station.Station.TheVariants.{One, Two, Three}
-use Rattle.rm_relay.specs.Headline.{KeepsPromise}
+use Rattle.rm_relay.specs.Headline.{KeepsPromise, KeepsPromiseOf}
 use Rattle.rm_relay.specs.Meaning.{stepped}
 use Rattle.rm_relay.specs.Played.{Played, Story, none, more}
 use Rattle.rm_relay.specs.Shows.{Holds, IsLeftOfLine, Scene}
@@ -76,7 +76,7 @@ keeps_run law own terms w net of =
 
 -- what a played script made keeps it
 pub promise_whole : EachRelayKeepsItsWord → OwnAreTerms → (terms : Terms) (script : List Said) (s : Story)
-    → AreOfNet terms → Played terms script s → (scene : Scene) → Holds s.world scene → KeepsPromise scene
+    → AreOfNet terms → Played terms script s → (scene : Scene) → Holds s.world scene → KeepsPromiseOf s.world scene
 promise_whole law own terms script s net played scene holds =
     promise_of s.world scene (keeps_run law own terms s.world net (run_of terms script s played)) holds
 
@@ -85,9 +85,9 @@ pub promise_short : EachRelayKeepsItsWord → OwnAreTerms → (terms : Terms) (s
     → AreOfNet terms → Played terms script s → (line : Said) (scene : Scene) → IsLeftOfLine terms s.world line scene
     → KeepsPromise scene
 promise_short law own terms script s net played line scene (inl holds) =
-    promise_whole law own terms script s net played scene holds
+    (s.world, promise_whole law own terms script s net played scene holds)
 promise_short law own terms script s net played line scene (inr (event, means, v, cut, holds)) =
     let next = run_step terms s.world (Some event) (run_of terms script s played) in
-    promise_of v scene
-    (keeps_by_nodes v (happens terms s.world event) cut.one cut.two cut.three
-    (keeps_run law own terms (happens terms s.world event) net next)) holds
+    let keeps = keeps_run law own terms (happens terms s.world event) net next in
+    let same = keeps_by_nodes v (happens terms s.world event) cut.one cut.two cut.three keeps in
+    (v, promise_of v scene same holds)

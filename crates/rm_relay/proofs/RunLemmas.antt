@@ -6,7 +6,7 @@ use Rattle.rm_protocol.specs.Terms.{Terms}
 use Rattle.rm_replay.specs.TaleLemmas.{tells_from}
 use Rattle.rm_replay.specs.Net.{AreOfNet}
 use Rattle.relay_word.specs.declared.station.Station.{Station}
-use Rattle.rm_relay.specs.Headline.{KeepsPromise}
+use Rattle.rm_relay.specs.Headline.{KeepsPromise, KeepsPromiseOf}
 use Rattle.rm_relay.specs.Played.{IsUnmade, Played, Ran, RanShort, Story, TellAll, WereSpared}
 use Rattle.rm_relay.specs.Playing.{AllPlayed}
 use Rattle.rm_relay.specs.Report.{end_text}
@@ -78,7 +78,7 @@ short_from terms script old mid now made short = record {
 abbrev pub WholeKeeps : Type 0
 WholeKeeps =
     (terms : Terms) (script : List Said) (s : Story) → AreOfNet terms → Played terms script s → (scene : Scene)
-    → Holds s.world scene → KeepsPromise scene
+    → Holds s.world scene → KeepsPromiseOf s.world scene
 
 -- and what stands where memory was wanting in a further line
 abbrev pub ShortKeeps : Type 0
@@ -90,7 +90,7 @@ pub short_keeps : WholeKeeps → ShortKeeps → (terms : Terms) (script : List S
     → RanShort terms script first now → KeepsPromise now
 short_keeps whole part terms script first now net short =
     elim short.left [
-      | inl still ↦ whole terms _ short.story net short.played now still.0
+      | inl still ↦ (short.story.world, whole terms _ short.story net short.played now still.0)
       | inr line ↦ part terms _ short.story net short.played line.0 now line.2.left
     ]
 
@@ -112,7 +112,8 @@ err_ran terms script old mid now (Err memory) made short = inr (short_from terms
 pub ok_keeps : WholeKeeps → (terms : Terms) (script : List Said) (first now : Scene) (result : Result (List ℕ) Memory)
     → AreOfNet terms → IfOk result (λ (text : List ℕ). Ran terms script first now text)
     → OnOk result (KeepsPromise now)
-ok_keeps whole terms script first now (Ok text) net ran = whole terms script ran.story net ran.played now ran.holds
+ok_keeps whole terms script first now (Ok text) net ran =
+    (ran.story.world, whole terms script ran.story net ran.played now ran.holds)
 ok_keeps whole terms script first now (Err memory) net ran = tt
 
 pub err_keeps : WholeKeeps → ShortKeeps → (terms : Terms) (script : List Said) (old first now : Scene)

@@ -4,35 +4,43 @@ use Rattle.std.specs.List.{AllByRecursion}
 use Rattle.record_batch.specs.Fact.{Fact}
 use Rattle.record_batch.specs.Writable.{IsBatch}
 use Rattle.rm_disk.specs.Image.{MayLeave}
-use Rattle.rm_protocol.specs.Node.{records_in}
+use Rattle.rm_protocol.specs.Crashes.{IsLeft}
+use Rattle.rm_protocol.specs.Node.{Node, records_in}
 use Rattle.rm_protocol.specs.Sound.{Keeps}
 use Rattle.rm_report.specs.Exits as exits
 use Rattle.node_store.specs.Has.{StandsForBatches}
 use Rattle.rm_relay.specs.Played.{IsUnmade}
 use Rattle.rm_relay.specs.Shows.{Scene}
 use Rattle.relay_word.specs.Word.{KeepsRelay}
+use Rattle.relay_word.specs.World.{World}
 
--- an image stands for the batches of a node, each of which is read back from its text, and its records say what all
--- records say that the node ever had, but for items that are gone, of which there are none among these
-pub record Image (bytes : List ℕ) : Type 0 where
+-- an image of the disk of this node stands for batches, each of which is read back from its text. Their records are
+-- what one more crash would leave, beside all that the node then ever had; and they say what these say, but for items
+-- that are gone, of which there are none among these
+pub record Image (x : Node) (bytes : List ℕ) : Type 0 where
   pub batches : List (List Fact)
   pub stands : StandsForBatches batches bytes
   pub each : AllByRecursion IsBatch batches
   pub whole : List Fact
+  pub left : IsLeft x (records_in batches) whole
   pub kept : Keeps (records_in batches) whole
 
--- three images keep the promise
-pub record KeepRelay (one two three : List ℕ) : Type 0 where
-  pub first : Image one
-  pub second : Image two
-  pub third : Image three
+-- three images keep the promise, by all that the nodes of this world ever had
+pub record KeepRelay (w : World) (one two three : List ℕ) : Type 0 where
+  pub first : Image w.one one
+  pub second : Image w.two two
+  pub third : Image w.three three
   pub keeps : KeepsRelay first.whole (records_in second.batches) second.whole (records_in third.batches) third.whole
 
 -- so it is at each three images of the disks
-abbrev pub KeepsPromise : Scene → Type 0
-KeepsPromise scene =
+abbrev pub KeepsPromiseOf : World → Scene → Type 0
+KeepsPromiseOf w scene =
     (one two three : List ℕ) → MayLeave scene.drives.one.disk.past one → MayLeave scene.drives.two.disk.past two
-    → MayLeave scene.drives.three.disk.past three → KeepRelay one two three
+    → MayLeave scene.drives.three.disk.past three → KeepRelay w one two three
+
+-- by all that the nodes of some world ever had
+abbrev pub KeepsPromise : Scene → Type 0
+KeepsPromise scene = (w : World) × KeepsPromiseOf w scene
 
 -- The promise, by the status of a run: it holds where a report was made; where memory was wanting, it holds as well,
 -- unless the stage is as it was or a node was not made; and at each other status nothing changed.

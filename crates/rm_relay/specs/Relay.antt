@@ -9,16 +9,19 @@ use Rattle.rm_command.specs.Edge.{Edge}
 use Rattle.rm_command.specs.Filter.{EndsFilter, IsFilterStatus}
 use Rattle.rm_command.specs.declared.end.End.{End}
 use Rattle.rm_command.specs.declared.end.End.TheVariants.{BadLine}
+use Rattle.rm_relay.specs.Headline.{KeepsPromiseOf}
 use Rattle.rm_relay.specs.Played.{IsUnmade, Ran, RanShort}
 use Rattle.rm_relay.specs.Script.{IsFirstBad, IsScript}
 use Rattle.rm_relay.specs.Shows.{Scene}
 use Rattle.rm_relay.specs.declared.event.Event.{Event}
 
--- the bytes are a script, all its lines were played, and this is the report
+-- the bytes are a script, all its lines were played, and this is the report. The promise holds by all that the nodes of
+-- that run ever had
 pub record IsReportOf (first now : Scene) (bytes text : List ℕ) : Type 0 where
   pub events : List Event
   pub script : IsScript (lines_of bytes) events
   pub ran : (terms : Terms) → AreOfNet terms → Ran terms events first now text
+  pub keeps : (terms : Terms) (net : AreOfNet terms) → KeepsPromiseOf (ran terms net).story.world now
 
 -- the bytes are a script of which some first lines were played, and of the next one perhaps all but some last of its
 -- packets; or a node was not made, and no line was played

@@ -3,7 +3,7 @@ ghost use Rattle.std.specs.Prelude.{◌≡◌, ℕ, List, Some};
 ghost use Rattle.std.specs.List.{AllByRecursion};
 ghost use Rattle.rm_protocol.specs.Terms.{Terms};
 ghost use Rattle.rm_replay.specs.Net.{AreOfNet};
-ghost use Rattle.rm_relay.specs.Headline.{KeepsPromise};
+ghost use Rattle.rm_relay.specs.Headline.{KeepsPromise, KeepsPromiseOf};
 ghost use Rattle.rm_relay.specs.Played.{Played, Story};
 ghost use Rattle.rm_relay.specs.Reading.{event_in};
 ghost use Rattle.rm_relay.specs.Script.{IsFirstBad, IsScript, Says};
@@ -36,7 +36,7 @@ pub fn no_bad_line()
 /// wanting in a further line.
 pub fn a_played_relay_keeps_its_promise()
     ensures whole { (terms : Terms) (script : List Said) (s : Story) → AreOfNet terms → Played terms script s
-        → (scene : Scene) → Holds s.world scene → KeepsPromise scene }
+        → (scene : Scene) → Holds s.world scene → KeepsPromiseOf s.world scene }
     ensures short { (terms : Terms) (script : List Said) (s : Story) → AreOfNet terms → Played terms script s
         → (line : Said) (scene : Scene) → IsLeftOfLine terms s.world line scene → KeepsPromise scene }
 {

@@ -18,6 +18,6 @@ pub mod stage;
 mod wire;
 
 pub use event::Event;
-pub use onward::{Ends, find_ends, forward, trim};
+pub use onward::{Ends, find_ends, forward, may_forward, trim};
 pub use relay::relay_run;
 pub use stage::Stage3;

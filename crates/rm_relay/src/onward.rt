@@ -1,10 +1,10 @@
 //! What a node received on its first incoming sequence goes into its first outgoing one, and is consumed there once it
 //! is acknowledged.
-ghost use Rattle.std.specs.Prelude.{◌≡◌, ◌<◌, ◌≤◌, ℕ, IfSome, IfNone, IfOk, Some, None, option_map, true};
+ghost use Rattle.std.specs.Prelude.{◌≡◌, ◌<◌, ◌≤◌, ℕ, IfSome, IfNone, IfOk, MatchBool, Some, None, option_map, true};
 ghost use Rattle.std.specs.Option.{option_copied};
 ghost use Rattle.rm_base.specs.Message.{max_number};
 ghost use Rattle.rm_destination.specs.Messages.{item_at};
-ghost use Rattle.sequence_table.specs.Destinations.{inbox};
+ghost use Rattle.sequence_table.specs.Destinations.{cursor, inbox};
 ghost use Rattle.sequence_table.specs.Fits.{is_incoming_side, is_outgoing_side};
 ghost use Rattle.sequence_table.specs.Makers.{maker};
 ghost use Rattle.sequence_table.specs.Sources.{accepted_count};
@@ -139,6 +139,32 @@ pub(crate) fn find_acknowledged(tables: &Tables, ends: Ends) -> u64
     ensures { result ≡ acknowledged tables.now.records ends.out }
 {
     acknowledged_front(tables, ends.out)
+}
+
+/// How many items of an incoming sequence's inbox were consumed.
+fn consumed_len(tables: &Tables, into: u32) -> u64
+    requires { is_incoming_side (maker tables.now.records into) ≡ true }
+    ensures { result ≡ cursor tables.now.records into }
+{
+    an_incoming_sequence_is_as_recorded();
+    match tables.incoming(into) {
+        Some(incoming) => incoming.consumed(),
+        None => unreachable!(),
+    }
+}
+
+/// Whether a node may forward and trim: it has both sequences, and of the items that are to be forwarded none is
+/// consumed. So it stays by these two calls, since `trim` consumes only what is acknowledged; who consumes more by
+/// `Node::consume` loses it.
+pub fn may_forward(tables: &Tables) -> bool
+    ensures { MatchBool result (MayForward tables.now.records) (¬ (MayForward tables.now.records)) }
+{
+    let Some(ends) = find_ends(tables) else {
+        return false;
+    };
+    let consumed = consumed_len(tables, ends.into);
+    let accepted = accepted_len(tables, ends.out);
+    consumed <= accepted
 }
 
 /// Forwards the next item of the first incoming sequence into the first outgoing one: the record that accepts it is the

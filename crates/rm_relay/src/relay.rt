@@ -8,7 +8,7 @@ ghost use Rattle.rm_relay.specs.Headline.{KeepsPromiseAt};
 ghost use Rattle.rm_relay.specs.Relay.{EndsRelay, IsRelayStatus};
 ghost use Rattle.rm_relay.specs.Shows.{IsFresh, scene_of};
 
-use crate::laws::{no_bad_line, values_are_within};
+use crate::laws::{a_played_relay_keeps_its_promise, no_bad_line, values_are_within};
 use crate::run::run_relay;
 use crate::script::read_relay;
 use crate::stage::Stage3;
@@ -64,6 +64,7 @@ fn relay<S: Source, K: Sink, M: CrashDisk, W: Wire>(
 {
     // A script says nothing beyond the limits that a run asks for.
     values_are_within();
+    a_played_relay_keeps_its_promise();
     let bytes = match read_input(alloc, input, out, SCRIPT_BYTES) {
         Ok(bytes) => bytes,
         Err(end) => return end,

@@ -8,4 +8,7 @@ returns c = each-relay (record {
   tells = c.a_pair_tells.ensures;
   apart = c.an_identifier_tells_its_node.ensures;
   announces = c.what_is_announced_stays.ensures;
+  ends = c.ends_are_right.ensures;
+  sets = c.sets_unite.ensures;
+  within = c.what_is_acknowledged_was_accepted.ensures;
 }) c.two_made_nodes_are_a_pair.ensures

@@ -11,6 +11,10 @@ returns-in-Ok-run_relay-clause-ends g c =
       events = c.in-Ok-read_relay.events.items;
       script = rw c.as_slice.ensures at c.in-Ok-read_relay.ensures.script;
       ran = c.in-Ok-run_relay.ensures.ok;
+      keeps = λ terms net.
+          let ran = c.in-Ok-run_relay.ensures.ok terms net in
+          c.a_played_relay_keeps_its_promise.ensures.whole terms c.in-Ok-read_relay.events.items ran.story net
+          ran.played (scene_of g.M.Disk.told g.W.Wire.packets c.run_relay.new.stage) ran.holds;
     })
     (rw (c.in-Ok.ensures.silent, c.as_slice-in-Ok-run_relay.ensures) at c.write_text.ensures.ends)
 
