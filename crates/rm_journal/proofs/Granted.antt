@@ -1,12 +1,11 @@
 -- What is known where a fresh list isn't refused: where it is put the bytes mean nothing to the list that stands.
-use Rattle.std.proofs.Common.{◌≡◌, ◌⊎◌, ℕ, ◌+◌, ◌-◌, ◌^◌, ◌<◌, ◌≤◌, Bool, true, false, not, cond, List, [], ◌∷◌}
-use Rattle.std.proofs.Common.{length, min, Some, None, refl, sym, ◌∙◌, ap, subst, inl, inr, arith, length-append}
+use Rattle.std.proofs.Common.{◌≡◌, ◌⊎◌, ℕ, ◌+◌, ◌-◌, ◌^◌, ◌<◌, ◌≤◌, Bool, true, false, not, cond, List}
+use Rattle.std.proofs.Common.{length, min, Some, None, refl, sym, ◌∙◌, ap, subst, inl, inr, arith}
 use Rattle.std.specs.Prelude.{nat_lt}
-use Rattle.std.specs.List.{flat_map}
 use Rattle.std.proofs.lemmas.Bool.{ltb-false, leb-true}
 use Rattle.rm_disk.specs.Call.{Call, seen_of}
 use Rattle.rm_disk.specs.ImageLemmas.{reads_as_image}
-use Rattle.rm_journal.specs.Entries.{block, list_of, AllFit}
+use Rattle.rm_journal.specs.Entries.{list_of, AllFit}
 use Rattle.rm_journal.specs.EntryLemmas.{end_is}
 use Rattle.rm_journal.specs.Journal.{Fits, limit, fits_before, place_for, list_refusal, next_bank}
 use Rattle.rm_journal.specs.JournalState.{JournalState, end_of}
@@ -84,9 +83,6 @@ has_room past entries fresh journal fits short small placed =
       }
     ]
 
-some : (entries : List (List ℕ)) → 1 ≤ length (list_of entries)
-some entries = omega (arith, length-append (flat_map block entries) (0 ∷ []))
-
 -- what the tests before the device calls make sure of
 pub record IsGranted (journal : JournalState) (fresh : List (List ℕ)) (start size : ℕ) : Type 0 where
   pub up : journal.is_down ≡ false
@@ -98,11 +94,11 @@ pub record IsGranted (journal : JournalState) (fresh : List (List ℕ)) (start s
 
 pub is_granted : (journal : JournalState) (fresh : List (List ℕ)) (start size : ℕ)
     → size ≡ min (length (list_of fresh)) (2 ^ 64 - 1)
-    → ((m : ℕ) → size ≡ min m (2 ^ 64 - 1) → 1 ≤ m → None ≡ list_refusal journal m)
+    → ((m : ℕ) → size ≡ min m (2 ^ 64 - 1) → None ≡ list_refusal journal m)
     → start ≡ place_for journal size → journal.bank.start < 2 ^ 64 → IsGranted journal fresh start size
 is_granted journal fresh start size is none at small =
     let n = length (list_of fresh) in
-    let whole = granted journal n (sym (none n is (some fresh))) in
+    let whole = granted journal n (sym (none n is)) in
     let fits = small_place journal n small whole.1 in
     let same : size ≡ n = omega (arith, is, fits) in
     let place : start ≡ place_for journal n = at ∙ ap (λ (m : ℕ). place_for journal m) same in

@@ -359,15 +359,14 @@ impl Journal {
 
     // Whether a list of so many bytes fits between the front and the list that stands.
     fn fits_before(&self, size: u64) -> bool
-        ensures { (n : ℕ) → size ≡ min n (2 ^ 64 - 1) → 1 ≤ n → result ≡ fits_before_of self.now n }
+        ensures { (n : ℕ) → size ≡ min n (2 ^ 64 - 1) → result ≡ fits_before_of self.now n }
     {
-        size <= self.start.saturating_sub(25)
+        self.start >= 25 && size <= self.start - 25
     }
 
     // Where a list of so many bytes is put, once that is not refused.
     fn place_for(&self, size: u64) -> u64
-        requires some { 1 ≤ size }
-        requires granted { list_refusal_of self.now size ≡ None }
+        requires { list_refusal_of self.now size ≡ None }
         ensures place { result ≡ place_of self.now size }
         ensures small { self.now.bank.start < 2 ^ 64 }
     {
@@ -381,7 +380,7 @@ impl Journal {
     /// The refusal of a list of so many bytes that comes before any call on the disk: whoever knows the bytes asks
     /// before the list is made.
     pub fn list_refusal(&self, size: u64) -> Option<JournalError>
-        ensures { (n : ℕ) → size ≡ min n (2 ^ 64 - 1) → 1 ≤ n → result ≡ list_refusal_of self.now n }
+        ensures { (n : ℕ) → size ≡ min n (2 ^ 64 - 1) → result ≡ list_refusal_of self.now n }
     {
         if self.down {
             return Some(JournalError::Down);
@@ -390,7 +389,7 @@ impl Journal {
             return None;
         }
         let end = self.end();
-        if size > JOURNAL_BYTES.saturating_sub(end).saturating_sub(1) {
+        if end.saturating_add(1).saturating_add(size) > JOURNAL_BYTES {
             return Some(JournalError::Full {
                 end,
                 needed: size.saturating_add(1),
