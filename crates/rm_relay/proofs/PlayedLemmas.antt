@@ -6,19 +6,21 @@ use Rattle.std.specs.Prelude.{◌⊎◌}
 use Rattle.record_batch.specs.Batch.{made}
 use Rattle.record_batch.specs.Fact.{Made}
 use Rattle.record_batch.specs.Format.{number32, number64, text}
+use Rattle.rm_protocol.specs.Node.{Node}
 use Rattle.rm_protocol.specs.Terms.{AreTerms, Terms}
+use Rattle.node_actor.specs.Stands.{Leaves}
 use Rattle.node_laws.specs.OwnTerms.{OwnAreTerms}
 use Rattle.rm_replay.specs.Net.{AreOfNet}
 use Rattle.rm_replay.specs.NetLemmas.{are_terms}
 use Rattle.relay_word.specs.Word.{AreThree, EachRelayKeepsItsWord, KeepsAll}
 use Rattle.relay_word.specs.World.{Event, World, address_of, happens, run, start}
 use Rattle.relay_word.specs.declared.station.Station.TheVariants.{One, Two, Three}
-use Rattle.rm_relay.specs.Headline.{KeepsPromise, KeepsPromiseOf}
+use Rattle.rm_relay.specs.Headline.{KeepsPromiseIn, KeepsPromiseOf}
 use Rattle.rm_relay.specs.Meaning.{stepped}
 use Rattle.rm_relay.specs.Played.{Played, Story, none, more}
 use Rattle.rm_relay.specs.Shows.{Holds, IsLeftOfLine, Scene}
 use Rattle.rm_relay.specs.declared.event.Event.{Event as Said}
-use Rattle.rm_relay.proofs.HeadlineLemmas.{keeps_by_nodes, promise_of}
+use Rattle.rm_relay.proofs.HeadlineLemmas.{promise_of}
 
 -- ---- a run
 
@@ -78,16 +80,23 @@ keeps_run law own terms w net of =
 pub promise_whole : EachRelayKeepsItsWord → OwnAreTerms → (terms : Terms) (script : List Said) (s : Story)
     → AreOfNet terms → Played terms script s → (scene : Scene) → Holds s.world scene → KeepsPromiseOf s.world scene
 promise_whole law own terms script s net played scene holds =
-    promise_of s.world scene (keeps_run law own terms s.world net (run_of terms script s played)) holds
+    promise_of s.world scene (keeps_run law own terms s.world net (run_of terms script s played)) holds.one holds.two
+    holds.three
 
 -- and what stands where memory was wanting in a further line
 pub promise_short : EachRelayKeepsItsWord → OwnAreTerms → (terms : Terms) (script : List Said) (s : Story)
     → AreOfNet terms → Played terms script s → (line : Said) (scene : Scene) → IsLeftOfLine terms s.world line scene
-    → KeepsPromise scene
+    → KeepsPromiseIn terms s.world line scene
 promise_short law own terms script s net played line scene (inl holds) =
-    (s.world, promise_whole law own terms script s net played scene holds)
+    inl (promise_whole law own terms script s net played scene holds)
 promise_short law own terms script s net played line scene (inr (event, means, v, cut, holds)) =
-    let next = run_step terms s.world (Some event) (run_of terms script s played) in
-    let keeps = keeps_run law own terms (happens terms s.world event) net next in
-    let same = keeps_by_nodes v (happens terms s.world event) cut.one cut.two cut.three keeps in
-    (v, promise_of v scene same holds)
+    let after = happens terms s.world event in
+    let of = run_step terms s.world (Some event) (run_of terms script s played) in
+    inr (
+      Some event,
+      means,
+      promise_of after scene (keeps_run law own terms after net of)
+          (subst (λ (x : Node). Leaves x scene.drives.one.disk.past) cut.one holds.one)
+          (subst (λ (x : Node). Leaves x scene.drives.two.disk.past) cut.two holds.two)
+          (subst (λ (x : Node). Leaves x scene.drives.three.disk.past) cut.three holds.three),
+    )

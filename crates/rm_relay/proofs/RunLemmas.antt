@@ -6,7 +6,8 @@ use Rattle.rm_protocol.specs.Terms.{Terms}
 use Rattle.rm_replay.specs.TaleLemmas.{tells_from}
 use Rattle.rm_replay.specs.Net.{AreOfNet}
 use Rattle.relay_word.specs.declared.station.Station.{Station}
-use Rattle.rm_relay.specs.Headline.{KeepsPromise, KeepsPromiseOf}
+use Rattle.rm_relay.specs.Headline.{KeepsCut, KeepsPromise, KeepsPromiseIn, KeepsPromiseOf, KeepsShort}
+use Rattle.rm_relay.specs.Meaning.{stepped}
 use Rattle.rm_relay.specs.Played.{IsUnmade, Played, Ran, RanShort, Story, TellAll, WereSpared}
 use Rattle.rm_relay.specs.Playing.{AllPlayed}
 use Rattle.rm_relay.specs.Report.{end_text}
@@ -84,15 +85,29 @@ WholeKeeps =
 abbrev pub ShortKeeps : Type 0
 ShortKeeps =
     (terms : Terms) (script : List Said) (s : Story) → AreOfNet terms → Played terms script s → (line : Said)
-    (scene : Scene) → IsLeftOfLine terms s.world line scene → KeepsPromise scene
+    (scene : Scene) → IsLeftOfLine terms s.world line scene → KeepsPromiseIn terms s.world line scene
 
-pub short_keeps : WholeKeeps → ShortKeeps → (terms : Terms) (script : List Said) (first now : Scene) → AreOfNet terms
-    → RanShort terms script first now → KeepsPromise now
+short_keeps : WholeKeeps → ShortKeeps → (terms : Terms) (script : List Said) (first now : Scene) → AreOfNet terms
+    → (short : RanShort terms script first now) → KeepsShort terms script first now short
 short_keeps whole part terms script first now net short =
     elim short.left [
-      | inl still ↦ (short.story.world, whole terms _ short.story net short.played now still.0)
-      | inr line ↦ part terms _ short.story net short.played line.0 now line.2.left
+      | inl still ↦ inl (whole terms _ short.story net short.played now still.0)
+      | inr line ↦ inr (line.0, line.1, part terms _ short.story net short.played line.0 now line.2.left)
     ]
+
+-- or a node was not made
+pub cut_keeps : WholeKeeps → ShortKeeps → (terms : Terms) (script : List Said) (first now : Scene) → AreOfNet terms
+    → (cut : IsUnmade first now ⊎ RanShort terms script first now) → KeepsCut terms script first now cut
+cut_keeps whole part terms script first now net (inl unmade) = tt
+cut_keeps whole part terms script first now net (inr short) = short_keeps whole part terms script first now net short
+
+-- so it is kept by the nodes of some world
+short_promise : (terms : Terms) (script : List Said) (first now : Scene) (short : RanShort terms script first now)
+    → KeepsShort terms script first now short → KeepsPromise now
+short_promise terms script first now short (inl keeps) = (short.story.world, keeps)
+short_promise terms script first now short (inr (line, at, inl keeps)) = (short.story.world, keeps)
+short_promise terms script first now short (inr (line, at, inr (event, means, keeps))) =
+    (stepped terms short.story.world event, keeps)
 
 -- ---- by what was answered
 
@@ -121,4 +136,4 @@ pub err_keeps : WholeKeeps → ShortKeeps → (terms : Terms) (script : List Sai
     → OnErr result (IsUnmade old now ⊎ KeepsPromise now)
 err_keeps whole part terms script old first now (Ok text) net short = tt
 err_keeps whole part terms script old first now (Err memory) net short =
-    inr (short_keeps whole part terms script first now net short)
+    inr (short_promise terms script first now short (short_keeps whole part terms script first now net short))

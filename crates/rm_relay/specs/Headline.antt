@@ -1,5 +1,6 @@
 -- The promise of a relay, by three disks.
-use Rattle.std.specs.Prelude.{◌≡◌, ◌≢◌, ◌⊎◌, ℕ, List}
+use Rattle.std.proofs.Common.{inl, inr}
+use Rattle.std.specs.Prelude.{◌≡◌, ◌≢◌, ◌⊎◌, ⊤, ℕ, List, slice_get, Option, Some}
 use Rattle.std.specs.List.{AllByRecursion}
 use Rattle.record_batch.specs.Fact.{Fact}
 use Rattle.record_batch.specs.Writable.{IsBatch}
@@ -7,12 +8,15 @@ use Rattle.rm_disk.specs.Image.{MayLeave}
 use Rattle.rm_protocol.specs.Crashes.{IsLeft}
 use Rattle.rm_protocol.specs.Node.{Node, records_in}
 use Rattle.rm_protocol.specs.Sound.{Keeps}
+use Rattle.rm_protocol.specs.Terms.{Terms}
 use Rattle.rm_report.specs.Exits as exits
 use Rattle.node_store.specs.Has.{StandsForBatches}
-use Rattle.rm_relay.specs.Played.{IsUnmade}
+use Rattle.rm_relay.specs.Meaning.{Means, stepped}
+use Rattle.rm_relay.specs.Played.{IsUnmade, RanShort}
 use Rattle.rm_relay.specs.Shows.{Scene}
+use Rattle.rm_relay.specs.declared.event.Event.{Event as Said}
 use Rattle.relay_word.specs.Word.{KeepsRelay}
-use Rattle.relay_word.specs.World.{World}
+use Rattle.relay_word.specs.World.{Event, World}
 
 -- an image of the disk of this node stands for batches, each of which is read back from its text. Their records are
 -- what one more crash would leave, beside all that the node then ever had; and they say what these say, but for items
@@ -37,6 +41,26 @@ abbrev pub KeepsPromiseOf : World → Scene → Type 0
 KeepsPromiseOf w scene =
     (one two three : List ℕ) → MayLeave scene.drives.one.disk.past one → MayLeave scene.drives.two.disk.past two
     → MayLeave scene.drives.three.disk.past three → KeepRelay w one two three
+
+-- by all that the nodes ever had in this world, or ever had once one more line was played
+abbrev pub KeepsPromiseIn : Terms → World → Said → Scene → Type 0
+KeepsPromiseIn terms w line scene =
+    KeepsPromiseOf w scene
+    ⊎ ((event : Option Event) × Means line event × KeepsPromiseOf (stepped terms w event) scene)
+
+-- where memory was wanting: by all that the nodes ever had after the lines that were played, or after the next one
+abbrev pub KeepsShort : (terms : Terms) (script : List Said) (first now : Scene) → RanShort terms script first now
+    → Type 0
+KeepsShort terms script first now short =
+    KeepsPromiseOf short.story.world now
+    ⊎ ((line : Said) × (slice_get script short.count ≡ Some line)
+    × KeepsPromiseIn terms short.story.world line now)
+
+-- and nothing is said where a node was not made
+abbrev pub KeepsCut : (terms : Terms) (script : List Said) (first now : Scene)
+    → IsUnmade first now ⊎ RanShort terms script first now → Type 0
+KeepsCut terms script first now (inl unmade) = ⊤
+KeepsCut terms script first now (inr short) = KeepsShort terms script first now short
 
 -- by all that the nodes of some world ever had
 abbrev pub KeepsPromise : Scene → Type 0

@@ -9,7 +9,7 @@ use Rattle.rm_command.specs.Edge.{Edge}
 use Rattle.rm_command.specs.Filter.{EndsFilter, IsFilterStatus}
 use Rattle.rm_command.specs.declared.end.End.{End}
 use Rattle.rm_command.specs.declared.end.End.TheVariants.{BadLine}
-use Rattle.rm_relay.specs.Headline.{KeepsPromiseOf}
+use Rattle.rm_relay.specs.Headline.{KeepsCut, KeepsPromiseOf}
 use Rattle.rm_relay.specs.Played.{IsUnmade, Ran, RanShort}
 use Rattle.rm_relay.specs.Script.{IsFirstBad, IsScript}
 use Rattle.rm_relay.specs.Shows.{Scene}
@@ -24,11 +24,12 @@ pub record IsReportOf (first now : Scene) (bytes text : List ℕ) : Type 0 where
   pub keeps : (terms : Terms) (net : AreOfNet terms) → KeepsPromiseOf (ran terms net).story.world now
 
 -- the bytes are a script of which some first lines were played, and of the next one perhaps all but some last of its
--- packets; or a node was not made, and no line was played
+-- packets; or a node was not made, and no line was played. The promise holds by all that the nodes of that run ever had
 pub record IsCutShortOf (first now : Scene) (bytes : List ℕ) : Type 0 where
   pub events : List Event
   pub script : IsScript (lines_of bytes) events
   pub ran : (terms : Terms) → AreOfNet terms → IsUnmade first now ⊎ RanShort terms events first now
+  pub keeps : (terms : Terms) (net : AreOfNet terms) → KeepsCut terms events first now (ran terms net)
 
 -- bytes are refused for the first line that is not in the grammar, and then the stage is as it was
 abbrev pub RefusesScript : {T : Type 0} → T → T → List ℕ → End → Type 0

@@ -3,7 +3,7 @@ ghost use Rattle.std.specs.Prelude.{◌≡◌, ℕ, List, Some};
 ghost use Rattle.std.specs.List.{AllByRecursion};
 ghost use Rattle.rm_protocol.specs.Terms.{Terms};
 ghost use Rattle.rm_replay.specs.Net.{AreOfNet};
-ghost use Rattle.rm_relay.specs.Headline.{KeepsPromise, KeepsPromiseOf};
+ghost use Rattle.rm_relay.specs.Headline.{KeepsPromiseIn, KeepsPromiseOf};
 ghost use Rattle.rm_relay.specs.Played.{Played, Story};
 ghost use Rattle.rm_relay.specs.Reading.{event_in};
 ghost use Rattle.rm_relay.specs.Script.{IsFirstBad, IsScript, Says};
@@ -32,13 +32,14 @@ pub fn no_bad_line()
         → ¬ (IsFirstBad lines line) }
 {}
 
-/// Three disks that hold what a played script made keep the promise of a relay; so do three disks where memory was
-/// wanting in a further line.
+/// Three disks that hold what a played script made keep the promise of a relay, by all that its nodes ever had; so do
+/// three disks where memory was wanting in a further line, perhaps by what its nodes had after that line.
 pub fn a_played_relay_keeps_its_promise()
     ensures whole { (terms : Terms) (script : List Said) (s : Story) → AreOfNet terms → Played terms script s
         → (scene : Scene) → Holds s.world scene → KeepsPromiseOf s.world scene }
     ensures short { (terms : Terms) (script : List Said) (s : Story) → AreOfNet terms → Played terms script s
-        → (line : Said) (scene : Scene) → IsLeftOfLine terms s.world line scene → KeepsPromise scene }
+        → (line : Said) (scene : Scene) → IsLeftOfLine terms s.world line scene
+        → KeepsPromiseIn terms s.world line scene }
 {
     every_relay_keeps_its_word();
     own_terms_are_terms();

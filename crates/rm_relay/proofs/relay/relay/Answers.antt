@@ -1,6 +1,7 @@
 use Rattle.std.proofs.Common.{inr}
 use Rattle.rm_command.specs.RunLemmas.{writing_ends}
 use Rattle.rm_relay.specs.Shows.{scene_of}
+use Rattle.rm_relay.proofs.RunLemmas.{cut_keeps}
 use Rattle.rm_relay.proofs.StatusLemmas.{promise_short}
 use Rattle.rm_relay.proofs.relay.relay.Goals as goal
 
@@ -27,6 +28,11 @@ returns-clause-ends g c =
         events = c.in-Ok-read_relay.events.items;
         script = rw c.as_slice.ensures at c.in-Ok-read_relay.ensures.script;
         ran = c.in-Err-run_relay.ensures.err;
+        keeps = λ terms net.
+            cut_keeps c.a_played_relay_keeps_its_promise.ensures.whole c.a_played_relay_keeps_its_promise.ensures.short
+            terms c.in-Ok-read_relay.events.items (scene_of g.M.Disk.told g.W.Wire.packets c.args.stage.now)
+            (scene_of g.M.Disk.told g.W.Wire.packets c.run_relay.new.stage) net
+            (c.in-Err-run_relay.ensures.err terms net);
       };
       silent = cc c.in-Ok.ensures.silent;
     }))
