@@ -6,8 +6,6 @@
 mod fault;
 mod file;
 mod reader;
-#[cfg(test)]
-mod tests;
 
 pub use fault::Fault;
 pub use file::{FileDisk, NAME};

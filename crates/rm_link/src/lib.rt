@@ -9,8 +9,6 @@ pub mod mem;
 pub mod packet;
 mod past;
 pub mod tcp;
-#[cfg(test)]
-mod tests;
 
 pub use fault::Fault;
 pub use link::Link;

@@ -1,9 +1,6 @@
 //! Bytes over a connection of the system, and packets posted over one in memory.
-use crate::link::Link;
-use crate::mem::MemLink;
-use crate::packet::{Fate, post};
-use crate::tcp::TcpLink;
 use rm_base::{Blob, MemConn, Memory, Numbers, Sink, Source, Uri};
+use rm_link::{Fate, Link, MemLink, TcpLink, post};
 use std::alloc::Global;
 use std::test::Fail;
 
