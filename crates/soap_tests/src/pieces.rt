@@ -26,10 +26,14 @@ fn fed_cut(
     let (begun, last) = text.split_at(second.min(text.len()));
     let (one, two) = begun.split_at(first.min(begun.len()));
     let mut reader = EnvelopeReader::new(alloc);
-    reader.feed(one)?;
-    reader.feed(two)?;
-    reader.feed(last)?;
-    Ok(reader)
+    let is_first = reader.feed(one).is_ok();
+    let is_second = reader.feed(two).is_ok();
+    let is_third = reader.feed(last).is_ok();
+    if is_first & is_second & is_third {
+        Ok(reader)
+    } else {
+        Err(Memory)
+    }
 }
 
 // The envelope that a text is, which comes in three pieces.
@@ -212,11 +216,16 @@ const MEBIBYTE: usize = 1048576;
 fn fed_spaces(alloc: Global, more: usize) -> Result<EnvelopeReader, Memory> {
     let spaces = vec![in alloc; b' '; MEBIBYTE]?;
     let piece = spaces.as_slice();
+    let rest = piece.split_at(more.min(piece.len())).0;
     let mut reader = EnvelopeReader::new(alloc);
-    reader.feed(piece)?;
-    reader.feed(piece)?;
-    reader.feed(piece.split_at(more.min(piece.len())).0)?;
-    Ok(reader)
+    let is_first = reader.feed(piece).is_ok();
+    let is_second = reader.feed(piece).is_ok();
+    let is_third = reader.feed(rest).is_ok();
+    if is_first & is_second & is_third {
+        Ok(reader)
+    } else {
+        Err(Memory)
+    }
 }
 
 // What is said of it at the end.
