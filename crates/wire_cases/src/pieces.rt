@@ -16,10 +16,14 @@ fn fed(
     let (begun, last) = document.split_at(second.min(document.len()));
     let (one, two) = begun.split_at(first.min(begun.len()));
     let mut reader = EnvelopeReader::new(alloc);
-    reader.feed(one)?;
-    reader.feed(two)?;
-    reader.feed(last)?;
-    Ok(reader)
+    let is_first = reader.feed(one).is_ok();
+    let is_second = reader.feed(two).is_ok();
+    let is_third = reader.feed(last).is_ok();
+    if is_first & is_second & is_third {
+        Ok(reader)
+    } else {
+        Err(Memory)
+    }
 }
 
 // Its message.
