@@ -10,12 +10,12 @@ use Rattle.rm_protocol.specs.Node.{Node, mounted}
 use Rattle.rm_protocol.specs.Terms.{Terms}
 use Rattle.rm_node.specs.Asked.{Asked}
 use Rattle.rm_node.specs.declared.call.Call.{Call}
-use Rattle.node_actor.specs.Actored.{Actored}
-use Rattle.node_actor.specs.Outcomes.{ends_by_disk, is_disk}
-use Rattle.node_actor.specs.Rewrites.{IsRewrite, Rewrites}
-use Rattle.node_actor.specs.Stands.{Crashed, Leaves, Stands}
-use Rattle.node_actor.specs.Steps.{Plays, Steps as CallSteps}
-use Rattle.node_actor.specs.declared.actor.Came.{Came}
+use Rattle.rm_replay.specs.Actor.Actored.{Actored}
+use Rattle.rm_replay.specs.Actor.Outcomes.{ends_by_disk, is_disk}
+use Rattle.rm_replay.specs.Actor.Rewrites.{IsRewrite, Rewrites}
+use Rattle.rm_replay.specs.Actor.Stands.{Crashed, Leaves, Stands}
+use Rattle.rm_replay.specs.Actor.Steps.{Plays, Steps as CallSteps}
+use Rattle.rm_replay.specs.declared.actor.actor.Came.{Came}
 use Rattle.rm_replay.specs.Asked.{WasAsked}
 use Rattle.rm_replay.specs.TaleLemmas.{asked_none, rose_by_none, tells_none}
 use Rattle.rm_replay.specs.Tales.{Drive, Tells}

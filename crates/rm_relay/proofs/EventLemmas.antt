@@ -10,11 +10,11 @@ use Rattle.rm_protocol.specs.Compact.{compacted as compacted_node}
 use Rattle.rm_protocol.specs.Node.{Node, armed as armed_by, mounted}
 use Rattle.rm_protocol.specs.Terms.{Terms}
 use Rattle.rm_protocol.specs.Word.{IsPrefixOf}
-use Rattle.node_actor.specs.Outcomes.{call_told, is_disk_outcome}
+use Rattle.rm_replay.specs.Actor.Outcomes.{call_told, is_disk_outcome}
 use Rattle.rm_replay.specs.Tales.{Tells}
 use Rattle.rm_disk.specs.Told.{Told}
-use Rattle.node_actor.specs.Actored.{Actored}
-use Rattle.node_actor.specs.Stands.{Leaves, Stands}
+use Rattle.rm_replay.specs.Actor.Actored.{Actored}
+use Rattle.rm_replay.specs.Actor.Stands.{Leaves, Stands}
 use Rattle.rm_replay.specs.TaleLemmas.{tells_asked, tells_none}
 use Rattle.relay_word.specs.World.{Event, World, happens, node, packets_of, with_node}
 use Rattle.relay_word.specs.World.{Arm, Compact, Crash}

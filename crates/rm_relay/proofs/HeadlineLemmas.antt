@@ -2,8 +2,8 @@
 use Rattle.std.proofs.Common.{ℕ, List}
 use Rattle.rm_protocol.specs.Node.{Node, mounted, records}
 use Rattle.rm_protocol.specs.Sound.{Keeps}
-use Rattle.node_actor.specs.LeftLemmas.{left_mounted}
-use Rattle.node_actor.specs.Stands.{IsLeftOf, Leaves}
+use Rattle.rm_replay.specs.Actor.LeftLemmas.{left_mounted}
+use Rattle.rm_replay.specs.Actor.Stands.{IsLeftOf, Leaves}
 use Rattle.relay_word.specs.Word.{KeepsAll}
 use Rattle.relay_word.specs.World.{World}
 use Rattle.rm_relay.specs.Headline.{Image, KeepsPromiseOf}

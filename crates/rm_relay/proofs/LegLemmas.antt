@@ -8,7 +8,7 @@ use Rattle.std.proofs.lemmas.Slice.Eq.{bytes_eq-Decides}
 use Rattle.std.proofs.lemmas.List.Concat.{flat_map-append}
 use Rattle.rm_message.specs.declared.message.Message.{Message}
 use Rattle.rm_node.specs.Packets.{packet_of}
-use Rattle.node_actor.specs.Outcomes.{back_packet}
+use Rattle.rm_replay.specs.Actor.Outcomes.{back_packet}
 use Rattle.rm_protocol.specs.Addresses.{BackOn, Nowhere, Out, Place, Waits, anonymous, is_anonymous, is_nowhere}
 use Rattle.rm_protocol.specs.Addresses.{is_polled}
 use Rattle.rm_protocol.specs.Addresses.{no_address, place_of}

@@ -13,8 +13,8 @@ use Rattle.rm_protocol.specs.Addresses.{place_of}
 use Rattle.rm_protocol.specs.Pair.{Acted}
 use Rattle.rm_protocol.specs.Terms.{Terms}
 use Rattle.rm_protocol.specs.Word.{IsPrefixOf}
-use Rattle.node_actor.specs.Outcomes.{back_packet, packets_in}
-use Rattle.node_actor.specs.declared.actor.Came.{Came}
+use Rattle.rm_replay.specs.Actor.Outcomes.{back_packet, packets_in}
+use Rattle.rm_replay.specs.declared.actor.actor.Came.{Came}
 use Rattle.rm_replay.specs.AllLemmas.{all_append, all_push, all_take, prefix_then}
 use Rattle.rm_replay.specs.Net.{AreOfNet}
 use Rattle.rm_replay.specs.ReadLemmas.{IsReadMessage}

@@ -24,8 +24,8 @@ use Rattle.rm_node.specs.Saying.{IsUnsaid}
 use Rattle.rm_node.specs.declared.call.Call.TheVariants as call
 use Rattle.rm_node.specs.declared.error.NodeError.{NodeError}
 use Rattle.rm_node.specs.declared.packets.Out.{Out}
-use Rattle.node_actor.specs.Actored.{Actored}
-use Rattle.node_actor.specs.Stands.{Stands, StandsBy}
+use Rattle.rm_replay.specs.Actor.Actored.{Actored}
+use Rattle.rm_replay.specs.Actor.Stands.{Stands, StandsBy}
 use Rattle.relay_word.specs.Ends.{AreEnds, acknowledged, first_incoming, first_outgoing, next_item}
 use Rattle.relay_word.specs.World.{World, Forward, Trim, forwards, happens, moves_two, packets_of, puts, sends_on}
 use Rattle.relay_word.specs.World.{trims}

@@ -8,7 +8,7 @@ use Rattle.record_batch.specs.Fact.{Made}
 use Rattle.record_batch.specs.Format.{number32, number64, text}
 use Rattle.rm_protocol.specs.Node.{Node}
 use Rattle.rm_protocol.specs.Terms.{AreTerms, Terms}
-use Rattle.node_actor.specs.Stands.{Leaves}
+use Rattle.rm_replay.specs.Actor.Stands.{Leaves}
 use Rattle.node_laws.specs.OwnTerms.{OwnAreTerms}
 use Rattle.rm_replay.specs.Net.{AreOfNet}
 use Rattle.rm_replay.specs.NetLemmas.{are_terms}

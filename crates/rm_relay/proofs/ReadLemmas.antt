@@ -10,7 +10,7 @@ use Rattle.node_laws.specs.OwnTerms.{AreOwn}
 use Rattle.node_laws.specs.Records.{IsKept}
 use Rattle.rm_node.specs.Asked.{Asked, Asks, MayBeAsked, is_connected}
 use Rattle.rm_node.specs.declared.call.Call.{Call}
-use Rattle.node_actor.specs.Steps.{answer_of, clocked}
+use Rattle.rm_replay.specs.Actor.Steps.{answer_of, clocked}
 use Rattle.rm_replay.specs.AllLemmas.{all_parts}
 use Rattle.rm_replay.specs.ReadLemmas.{AreRead, IsReadMessage, kept_by, said_is_read}
 use Rattle.relay_word.specs.World.{World, node}

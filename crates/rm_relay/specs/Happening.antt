@@ -9,10 +9,10 @@ use Rattle.rm_protocol.specs.Terms.{Terms}
 use Rattle.rm_node.specs.Asked.{Asked, is_connected}
 use Rattle.rm_node.specs.Packets.{packet_of}
 use Rattle.rm_node.specs.declared.call.Call.{Call}
-use Rattle.node_actor.specs.Outcomes.{back_packet, call_told, is_disk_outcome, packets_in}
-use Rattle.node_actor.specs.Stands.{Leaves}
-use Rattle.node_actor.specs.Steps.{answer_of, clocked}
-use Rattle.node_actor.specs.declared.actor.Came.{Came}
+use Rattle.rm_replay.specs.Actor.Outcomes.{back_packet, call_told, is_disk_outcome, packets_in}
+use Rattle.rm_replay.specs.Actor.Stands.{Leaves}
+use Rattle.rm_replay.specs.Actor.Steps.{answer_of, clocked}
+use Rattle.rm_replay.specs.declared.actor.actor.Came.{Came}
 use Rattle.rm_replay.specs.Asked.{WasAsked}
 use Rattle.rm_replay.specs.Tales.{Tale, Tells}
 use Rattle.rm_relay.specs.Meaning.{Means, comes_out, stepped}

@@ -12,7 +12,7 @@ use Rattle.rm_protocol.specs.Pair.{Consumes, Receives, Compacts, Arms, Crashes}
 use Rattle.rm_protocol.specs.Polls.{poll}
 use Rattle.rm_protocol.specs.Terms.{Terms}
 use Rattle.rm_protocol.specs.World.{received_by, with_clock}
-use Rattle.node_actor.specs.Outcomes.{call_told}
+use Rattle.rm_replay.specs.Actor.Outcomes.{call_told}
 use Rattle.relay_word.specs.Ends.{first_incoming, first_outgoing, next_item}
 use Rattle.relay_word.specs.World.{Event, Packet, World, asker, forwards, happens, node, trims, wish_of}
 use Rattle.relay_word.specs.World.{Create, Send, Forward, Trim, Tick, Deliver, Close, End, Compact, Arm, Crash}

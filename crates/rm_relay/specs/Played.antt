@@ -5,8 +5,8 @@ use Rattle.std.specs.Option.{option_map}
 use Rattle.rm_base.specs.Numbered.{numbered}
 use Rattle.record_batch.specs.Fact.{Fact}
 use Rattle.rm_protocol.specs.Terms.{Terms}
-use Rattle.node_actor.specs.Outcomes.{is_disk_outcome}
-use Rattle.node_actor.specs.Stands.{Leaves}
+use Rattle.rm_replay.specs.Actor.Outcomes.{is_disk_outcome}
+use Rattle.rm_replay.specs.Actor.Stands.{Leaves}
 use Rattle.node_store.specs.Changes.{WasNotMade}
 use Rattle.rm_base.specs.Count.{RoseBy}
 use Rattle.rm_disk.specs.Call.{crashes_of}

@@ -2,8 +2,8 @@
 use Rattle.std.specs.Prelude.{◌≡◌, ℕ, if◌then◌else◌, List, [], ◌∷◌, ◌++◌, map, length, take, Option, Some, None}
 use Rattle.rm_network.specs.Wire.{has_room}
 use Rattle.rm_node.specs.declared.packets.Out.{Out}
-use Rattle.node_actor.specs.Outcomes.{packets_in}
-use Rattle.node_actor.specs.declared.actor.Came.{Came}
+use Rattle.rm_replay.specs.Actor.Outcomes.{packets_in}
+use Rattle.rm_replay.specs.declared.actor.actor.Came.{Came}
 use Rattle.rm_protocol.specs.Addresses.{is_anonymous}
 use Rattle.sequence_table.specs.Words.{Text}
 use Rattle.relay_word.specs.World.{number_of, station_at}

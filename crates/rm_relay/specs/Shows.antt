@@ -5,7 +5,7 @@ use Rattle.rm_disk.specs.Told.{Told}
 use Rattle.rm_protocol.specs.Terms.{Terms}
 use Rattle.rm_protocol.specs.Word.{IsPrefixOf}
 use Rattle.rm_node.specs.Came.{IsReadAs}
-use Rattle.node_actor.specs.Stands.{Leaves, Stands}
+use Rattle.rm_replay.specs.Actor.Stands.{Leaves, Stands}
 use Rattle.rm_replay.specs.Net.{read_as, text_of}
 use Rattle.rm_replay.specs.Shows.{drive_of}
 use Rattle.rm_replay.specs.Tales.{Drive}

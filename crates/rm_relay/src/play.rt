@@ -13,7 +13,7 @@ use crate::happen::happen;
 use crate::report::{Line3, push_line};
 use crate::stage::{Nodes3, Stage3};
 use crate::wire::Senders;
-use node_actor::laws::each_image_is_left;
+use rm_replay::actor::laws::each_image_is_left;
 use rm_base::{Blob, Memory};
 use rm_disk::CrashDisk;
 use rm_network::Wire;

@@ -1,6 +1,6 @@
 //! What a relay is played over.
 
-use node_actor::Actor;
+use rm_replay::actor::Actor;
 use rm_disk::CrashDisk;
 use rm_network::Wire;
 

@@ -4,7 +4,7 @@ ghost use Rattle.rm_node.specs.Packets.{reply_packet};
 ghost use Rattle.rm_relay.specs.Putting.{IsPutInPart, goes_by, going_of, goings_of, net_of, with_all, with_one};
 ghost use Rattle.relay_word.specs.World.{address_of, number_of, station_at as station_of};
 
-use node_actor::Came;
+use rm_replay::actor::Came;
 use node_messages::is_anonymous;
 use relay_word::Station;
 use rm_base::{Blob, Memory};

@@ -6,12 +6,12 @@ use Rattle.rm_disk.specs.Told.{Told}
 use Rattle.rm_protocol.specs.Node.{Node, fetched_after, said_after}
 use Rattle.rm_protocol.specs.Said.{sent_of}
 use Rattle.rm_protocol.specs.Terms.{Terms}
-use Rattle.node_actor.specs.Actored.{Actored}
+use Rattle.rm_replay.specs.Actor.Actored.{Actored}
 use Rattle.rm_node.specs.Asked.{Asked, is_connected}
 use Rattle.rm_node.specs.declared.call.Call.{Call}
-use Rattle.node_actor.specs.declared.actor.Came.{Came}
-use Rattle.node_actor.specs.Steps.{Plays, Steps as CallSteps, answer_of, clocked}
-use Rattle.node_actor.specs.Outcomes.{is_disk}
+use Rattle.rm_replay.specs.declared.actor.actor.Came.{Came}
+use Rattle.rm_replay.specs.Actor.Steps.{Plays, Steps as CallSteps, answer_of, clocked}
+use Rattle.rm_replay.specs.Actor.Outcomes.{is_disk}
 use Rattle.rm_replay.specs.Asked.{Steps, WasAsked, bytes_of, step_of}
 use Rattle.rm_replay.specs.Tales.{Drive}
 use Rattle.rm_replay.proofs.PutLemmas.{bytes_left}

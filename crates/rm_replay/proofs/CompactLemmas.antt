@@ -11,10 +11,10 @@ use Rattle.rm_report.specs.declared.line.Outcome.{Outcome}
 use Rattle.rm_script.specs.declared.event.Event.TheVariants as said
 use Rattle.rm_script.specs.declared.event.Side.{Side as Place}
 use Rattle.rm_script.specs.declared.event.Side.TheVariants as place
-use Rattle.node_actor.specs.Actored.{Actored}
-use Rattle.node_actor.specs.Outcomes.{ends_by_disk, is_disk_outcome}
-use Rattle.node_actor.specs.Rewrites.{IsRewrite, Rewrites}
-use Rattle.node_actor.specs.Stands.{Stands}
+use Rattle.rm_replay.specs.Actor.Actored.{Actored}
+use Rattle.rm_replay.specs.Actor.Outcomes.{ends_by_disk, is_disk_outcome}
+use Rattle.rm_replay.specs.Actor.Rewrites.{IsRewrite, Rewrites}
+use Rattle.rm_replay.specs.Actor.Stands.{Stands}
 use Rattle.rm_replay.specs.Asked.{WasAsked, WereAsked}
 use Rattle.rm_replay.specs.Happening.{Compacts, Happens, told_of}
 use Rattle.rm_replay.specs.Meaning.{side_of}

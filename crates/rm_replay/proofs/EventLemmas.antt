@@ -15,9 +15,9 @@ use Rattle.rm_report.specs.declared.line.Outcome.TheVariants as told
 use Rattle.rm_script.specs.declared.event.Event.{Event as Said}
 use Rattle.rm_script.specs.declared.event.Event.TheVariants as said
 use Rattle.rm_script.specs.declared.event.Side.{Side as Place}
-use Rattle.node_actor.specs.Actored.{Actored}
-use Rattle.node_actor.specs.Outcomes.{is_disk_outcome}
-use Rattle.node_actor.specs.Stands.{Leaves, Stands}
+use Rattle.rm_replay.specs.Actor.Actored.{Actored}
+use Rattle.rm_replay.specs.Actor.Outcomes.{is_disk_outcome}
+use Rattle.rm_replay.specs.Actor.Stands.{Leaves, Stands}
 use Rattle.rm_disk.specs.Told.{Told}
 use Rattle.rm_replay.specs.Asked.{Step, WereAsked}
 use Rattle.rm_replay.specs.Happening.{CrashedAt, Happened, Happens, Moves, WereAskedFor, armed}

@@ -7,8 +7,8 @@ use Rattle.rm_protocol.specs.Node.{Node}
 use Rattle.rm_protocol.specs.World.{World}
 use Rattle.rm_script.specs.declared.event.Side.{Side as Place}
 use Rattle.rm_script.specs.declared.event.Side.TheVariants as place
-use Rattle.node_actor.specs.Actored.{Actored}
-use Rattle.node_actor.specs.Stands.{Stands}
+use Rattle.rm_replay.specs.Actor.Actored.{Actored}
+use Rattle.rm_replay.specs.Actor.Stands.{Stands}
 use Rattle.rm_replay.specs.Happening.{granted}
 use Rattle.rm_replay.specs.Meaning.{side_of}
 use Rattle.rm_replay.specs.Shows.{Drives, StandFor}

@@ -4,8 +4,8 @@ use Rattle.record_batch.specs.Fact.{Fact}
 use Rattle.rm_protocol.specs.Node.{Node, mounted, records}
 use Rattle.rm_protocol.specs.Crashes.{IsLeft, KeepsAll}
 use Rattle.rm_protocol.specs.World.{World}
-use Rattle.node_actor.specs.LeftLemmas.{left_mounted}
-use Rattle.node_actor.specs.Stands.{StandsFrom}
+use Rattle.rm_replay.specs.Actor.LeftLemmas.{left_mounted}
+use Rattle.rm_replay.specs.Actor.Stands.{StandsFrom}
 use Rattle.node_store.specs.Has.{StandsForBatches}
 use Rattle.rm_replay.specs.Headline.{KeepsHeadline, KeepsLooseWord}
 use Rattle.rm_replay.specs.Shows.{Holds, Scene}

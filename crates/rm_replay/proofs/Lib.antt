@@ -13,3 +13,5 @@ mod RunLemmas
 mod AddressLemmas
 mod CrashLemmas
 mod CompactLemmas
+pub mod ActorLemmas
+pub mod SummaryLemmas

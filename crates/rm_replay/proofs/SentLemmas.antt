@@ -23,8 +23,8 @@ use Rattle.rm_script.specs.Within.{IsWithin}
 use Rattle.rm_script.specs.declared.event.Event.{Event as Said}
 use Rattle.rm_script.specs.declared.event.Event.TheVariants as said
 use Rattle.rm_script.specs.declared.event.Side.{Side as Place}
-use Rattle.node_actor.specs.LeftLemmas.{records_push}
-use Rattle.node_actor.specs.Outcomes.{call_told, refusal_told}
+use Rattle.rm_replay.specs.Actor.LeftLemmas.{records_push}
+use Rattle.rm_replay.specs.Actor.Outcomes.{call_told, refusal_told}
 use Rattle.node_laws.specs.OwnTerms.{OwnAreTerms}
 use Rattle.rm_replay.specs.Meaning.{Means, comes_out, report_of, stepped}
 use Rattle.rm_replay.specs.Net.{AreOfNet}

@@ -10,9 +10,9 @@ use Rattle.rm_protocol.specs.Node.{Node}
 use Rattle.rm_protocol.specs.Terms.{Terms}
 use Rattle.rm_protocol.specs.World.{Side, One, Two, World, hands_out, other, with_node}
 use Rattle.rm_report.specs.declared.line.Outcome.{Outcome}
-use Rattle.node_actor.specs.Outcomes.{is_disk_outcome, packets_in}
-use Rattle.node_actor.specs.Stands.{Stands}
-use Rattle.node_actor.specs.declared.actor.Came.{Came}
+use Rattle.rm_replay.specs.Actor.Outcomes.{is_disk_outcome, packets_in}
+use Rattle.rm_replay.specs.Actor.Stands.{Stands}
+use Rattle.rm_replay.specs.declared.actor.actor.Came.{Came}
 use Rattle.rm_replay.specs.AllLemmas.{all_take}
 use Rattle.rm_replay.specs.Asked.{Step, SteppedAt, Steps, StepsAt, WasAsked, WereAsked, bytes_of}
 use Rattle.rm_replay.specs.Meaning.{side_of}

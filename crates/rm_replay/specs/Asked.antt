@@ -10,12 +10,12 @@ use Rattle.rm_protocol.specs.World.{Side, One, Two, World, with_node}
 use Rattle.rm_protocol.specs.Sent.{same_side}
 use Rattle.rm_disk.specs.Call.{crashes_of}
 use Rattle.rm_disk.specs.Cause.{HasCause}
-use Rattle.node_actor.specs.Actored.{Actored}
+use Rattle.rm_replay.specs.Actor.Actored.{Actored}
 use Rattle.rm_node.specs.Asked.{Asked, is_connected}
-use Rattle.node_actor.specs.Steps.{answer_of, clocked}
-use Rattle.node_actor.specs.Outcomes.{call_told, packets_in}
-use Rattle.node_actor.specs.Stands.{Stands}
-use Rattle.node_actor.specs.declared.actor.Came.{Came}
+use Rattle.rm_replay.specs.Actor.Steps.{answer_of, clocked}
+use Rattle.rm_replay.specs.Actor.Outcomes.{call_told, packets_in}
+use Rattle.rm_replay.specs.Actor.Stands.{Stands}
+use Rattle.rm_replay.specs.declared.actor.actor.Came.{Came}
 use Rattle.rm_disk.specs.Told.{Told}
 use Rattle.rm_node.specs.declared.call.Call.{Call}
 use Rattle.rm_replay.specs.Net.{text_of}

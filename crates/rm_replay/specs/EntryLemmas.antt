@@ -9,8 +9,8 @@ use Rattle.rm_journal.specs.EntryLemmas.{length-gates_from}
 use Rattle.rm_protocol.specs.Node.{Node, State, Up, Writing, Compacting}
 use Rattle.node_store.specs.Has.{entries_of}
 use Rattle.node_store.specs.Stored.{Stored}
-use Rattle.node_actor.specs.Actored.{Actored}
-use Rattle.node_actor.specs.Stands.{Stands, StandsBy}
+use Rattle.rm_replay.specs.Actor.Actored.{Actored}
+use Rattle.rm_replay.specs.Actor.Stands.{Stands, StandsBy}
 
 entries_by : (st : State) (entries : List (List Fact)) (past : List Call) (stored : Stored)
     → StandsBy st entries past stored → length stored.journal.gates ≡ length entries

@@ -12,8 +12,8 @@ use Rattle.rm_script.specs.declared.event.Event.{Event as Said}
 use Rattle.rm_script.specs.declared.event.Event.TheVariants as said
 use Rattle.rm_script.specs.declared.event.Side.{Side as Place}
 use Rattle.rm_network.specs.Wire.{with_packet}
-use Rattle.node_actor.specs.Outcomes.{call_told, is_disk_outcome}
-use Rattle.node_actor.specs.Stands.{Leaves}
+use Rattle.rm_replay.specs.Actor.Outcomes.{call_told, is_disk_outcome}
+use Rattle.rm_replay.specs.Actor.Stands.{Leaves}
 use Rattle.rm_replay.specs.Asked.{Step, WereAsked}
 use Rattle.rm_replay.specs.Meaning.{Means, comes_out, side_of, stepped}
 use Rattle.rm_replay.specs.Shows.{Drives, IsCut, Scene, Shows, StandFor}

@@ -15,3 +15,5 @@ pub mod Shows
 pub mod TaleLemmas
 pub mod Tales
 pub mod Unarmed
+pub mod Actor
+pub mod Summary

@@ -17,7 +17,7 @@ use Rattle.rm_script.specs.declared.event.Event.{Event as Said}
 use Rattle.rm_script.specs.declared.event.Event.TheVariants as said
 use Rattle.rm_script.specs.declared.event.Side.{Side as Node}
 use Rattle.rm_script.specs.declared.event.Side.TheVariants as node
-use Rattle.node_actor.specs.Outcomes.{call_told}
+use Rattle.rm_replay.specs.Actor.Outcomes.{call_told}
 
 -- the node that a script names
 abbrev pub side_of : Node → Side

@@ -6,9 +6,9 @@ use Rattle.rm_protocol.specs.World.{One, Two, World, Event, start}
 use Rattle.rm_report.specs.Report.{down_text, lines_text}
 use Rattle.rm_report.specs.declared.line.Line.{Line}
 use Rattle.rm_script.specs.declared.event.Event.{Event as Said}
-use Rattle.node_actor.specs.Stands.{Leaves}
+use Rattle.rm_replay.specs.Actor.Stands.{Leaves}
 use Rattle.node_store.specs.Changes.{WasNotMade}
-use Rattle.node_summary.specs.Summary.{node_text}
+use Rattle.rm_replay.specs.Summary.Summary.{node_text}
 use Rattle.rm_replay.specs.Asked.{WereSpared}
 use Rattle.rm_replay.specs.Meaning.{Means, comes_out, report_of, stepped}
 use Rattle.rm_replay.specs.Sent.{AcceptedIsSent}

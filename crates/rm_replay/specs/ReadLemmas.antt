@@ -24,17 +24,17 @@ use Rattle.node_laws.specs.Records.{IsKept}
 use Rattle.node_store.specs.Stored.{Stored}
 use Rattle.rm_node.specs.Came.{IsReadAs}
 use Rattle.rm_node.specs.CameLemmas.{ReadsRight, RefusesRight}
-use Rattle.node_actor.specs.Stands.{StandsBy, kept_of}
+use Rattle.rm_replay.specs.Actor.Stands.{StandsBy, kept_of}
 use Rattle.rm_protocol.specs.World.{Side, One, Two, World, node}
 use Rattle.rm_replay.specs.AllLemmas.{all_append}
 use Rattle.rm_replay.specs.Shows.{Drives, StandFor}
 use Rattle.rm_replay.specs.declared.stage.Nodes.{Nodes}
 use Rattle.rm_node.specs.Asked.{Asked, Asks, MayBeAsked, is_connected}
-use Rattle.node_actor.specs.Steps.{answer_of, clocked}
+use Rattle.rm_replay.specs.Actor.Steps.{answer_of, clocked}
 use Rattle.rm_replay.specs.Asked.{step_of}
 use Rattle.rm_replay.specs.Net.{read_as, text_of}
 use Rattle.rm_node.specs.declared.call.Call.{Call}
-use Rattle.node_actor.specs.AnswerLemmas.{of_each}
+use Rattle.rm_replay.specs.Actor.AnswerLemmas.{of_each}
 use Rattle.soap_envelope.specs.Soap.{soap_space}
 use Rattle.rm_replay.specs.FetchedLemmas.{IsAlone, ask-alone, close-alone, consume-alone, create-alone, end-alone}
 use Rattle.rm_replay.specs.FetchedLemmas.{nack-alone, receive-alone, send-alone, tick-alone}

@@ -7,7 +7,7 @@ use Rattle.rm_protocol.specs.Word.{IsPrefixOf}
 use Rattle.rm_protocol.specs.World.{Packet, Side, One, Two, World, Event, happens}
 use Rattle.rm_script.specs.declared.event.Event.{Event as Said}
 use Rattle.rm_node.specs.Came.{IsReadAs}
-use Rattle.node_actor.specs.Stands.{Leaves, Stands}
+use Rattle.rm_replay.specs.Actor.Stands.{Leaves, Stands}
 use Rattle.rm_replay.specs.declared.stage.Nodes.{Nodes}
 use Rattle.rm_replay.specs.declared.stage.Stage.{Stage}
 use Rattle.rm_replay.specs.Meaning.{Means}

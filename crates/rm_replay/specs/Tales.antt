@@ -13,7 +13,7 @@ use Rattle.rm_protocol.specs.World.{Noise, Poll, Compact, Consume, node, other}
 use Rattle.rm_report.specs.declared.line.Outcome.{Outcome}
 use Rattle.rm_script.specs.declared.event.Event.{Event as Said}
 use Rattle.rm_script.specs.declared.event.Event.TheVariants as said
-use Rattle.node_actor.specs.Outcomes.{is_disk_outcome}
+use Rattle.rm_replay.specs.Actor.Outcomes.{is_disk_outcome}
 use Rattle.rm_disk.specs.Told.{Told}
 use Rattle.node_store.specs.Has.{StandsForBatches}
 use Rattle.rm_replay.specs.Meaning.{outcome_told, side_of, stepped}

@@ -1,5 +1,5 @@
 //! A node is asked for something, or something comes to it.
-ghost use Rattle.node_actor.specs.Outcomes.{is_disk};
+ghost use Rattle.rm_replay.specs.Actor.Outcomes.{is_disk};
 ghost use Rattle.rm_node.specs.Asked.{Asked, Asks, MayBeAsked};
 ghost use Rattle.node_laws.specs.OwnTerms.{AreOwn};
 ghost use Rattle.rm_protocol.specs.Terms.{Terms};
@@ -9,7 +9,7 @@ ghost use Rattle.rm_replay.specs.Meaning.{side_of};
 ghost use Rattle.rm_replay.specs.Shows.{StandFor, drives_of};
 
 use crate::stage::Nodes;
-use node_actor::Came;
+use crate::actor::Came;
 use rm_base::Memory;
 use rm_disk::CrashDisk;
 use rm_node::Call;

@@ -2,7 +2,7 @@
 ghost use Rattle.std.specs.Prelude.{◌≡◌, ◌≤◌, IfOk, false};
 ghost use Rattle.rm_base.specs.Text.{IsText};
 ghost use Rattle.rm_elements.specs.Writable.{IsLapseWritable};
-ghost use Rattle.node_actor.specs.Outcomes.{ends_by_disk};
+ghost use Rattle.rm_replay.specs.Actor.Outcomes.{ends_by_disk};
 ghost use Rattle.node_laws.specs.OwnTerms.{AreOwn};
 ghost use Rattle.rm_protocol.specs.Terms.{Terms};
 ghost use Rattle.rm_protocol.specs.World.{Side as Place, World, node, other as other_of};
@@ -19,7 +19,7 @@ use crate::stage::{Nodes, Stage};
 use crate::wire::put_came;
 use call_answers::Wish;
 use message_reader::decode;
-use node_actor::laws::each_image_is_left;
+use crate::actor::laws::each_image_is_left;
 use node_laws::laws::{each_message_keeps_the_rules, what_waits_keeps_the_rules};
 use read_laws::laws::{a_refusal_may_be_answered, what_is_read_may_be_written};
 use record_batch::Via;

@@ -1,5 +1,5 @@
 //! Two durable nodes on two disks, a wire between them, and the scripts that are played over them. It stands on one
-//! node of a script, `node_actor`, on scripts and reports, `rm_script`, `rm_report` and `node_summary`, and on wires,
+//! node of a script, `actor`, on scripts and reports, `rm_script`, `rm_report` and `summary`, and on wires,
 //! `rm_network`. The layer above may use `run_script` by the definitions of `specs/`, and the laws.
 #![tactic(auto)]
 
@@ -13,3 +13,7 @@ mod wire;
 
 pub use run::run_script;
 pub use stage::Stage;
+
+pub mod actor;
+
+pub mod summary;

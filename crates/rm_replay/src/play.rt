@@ -12,7 +12,7 @@ ghost use Rattle.rm_replay.specs.Shows.{Shows, scene_of};
 use crate::happen::happen;
 use crate::laws::there_are_nets;
 use crate::stage::{Nodes, Stage};
-use node_actor::laws::each_image_is_left;
+use crate::actor::laws::each_image_is_left;
 use rm_base::{Blob, Memory};
 use rm_disk::CrashDisk;
 use rm_network::Wire;

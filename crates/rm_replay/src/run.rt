@@ -1,7 +1,7 @@
 //! The run of a script.
 ghost use Rattle.std.specs.Prelude.{◌≡◌, ◌++◌, ◌⊎◌, [], IfOk, OnErr, OnOk};
 ghost use Rattle.std.specs.List.{AllByRecursion};
-ghost use Rattle.node_actor.specs.Stands.{Stands};
+ghost use Rattle.rm_replay.specs.Actor.Stands.{Stands};
 ghost use Rattle.rm_disk.specs.Told.{Told};
 ghost use Rattle.rm_protocol.specs.Node.{Node as Value};
 ghost use Rattle.rm_protocol.specs.Terms.{Terms};
@@ -16,9 +16,9 @@ use crate::happen::address;
 use crate::laws::{a_played_script_keeps_the_headline, there_are_nets, what_was_accepted_was_sent};
 use crate::play::play;
 use crate::stage::{Nodes, Stage};
-use node_actor::Actor;
-use node_actor::laws::each_image_is_left;
-use node_summary::push_node;
+use crate::actor::Actor;
+use crate::actor::laws::each_image_is_left;
+use crate::summary::push_node;
 use rm_base::{Blob, Memory};
 use rm_disk::CrashDisk;
 use rm_network::Wire;

@@ -1,6 +1,6 @@
 //! What a script is played over.
 
-use node_actor::Actor;
+use crate::actor::Actor;
 use rm_disk::CrashDisk;
 use rm_network::Wire;
 

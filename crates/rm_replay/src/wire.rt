@@ -1,10 +1,10 @@
 //! What left a node goes on the wire.
 ghost use Rattle.std.specs.Prelude.{◌≡◌, IfOk, OnErr, OnOk};
-ghost use Rattle.node_actor.specs.Outcomes.{packets_in};
+ghost use Rattle.rm_replay.specs.Actor.Outcomes.{packets_in};
 ghost use Rattle.rm_node.specs.Packets.{reply_packet};
 ghost use Rattle.rm_replay.specs.Happening.{IsPutInPart, with_all};
 
-use node_actor::Came;
+use crate::actor::Came;
 use rm_base::{Blob, Memory};
 use rm_network::Wire;
 use rm_node::Out;

@@ -1,6 +1,6 @@
 use Rattle.std.proofs.Common.{false, inl, None, refl, subst, sym}
 use Rattle.std.proofs.lemmas.Result.{err_from_is_err_and}
-use Rattle.node_actor.specs.Outcomes.{is_disk_outcome}
+use Rattle.rm_replay.specs.Actor.Outcomes.{is_disk_outcome}
 use Rattle.rm_report.specs.declared.line.Outcome.{Outcome}
 use Rattle.relay_word.specs.World.{node}
 use Rattle.rm_relay.specs.Happening.{WereAsked, step_of}

@@ -1,5 +1,5 @@
 use Rattle.std.proofs.Common.{refl}
-use Rattle.node_actor.specs.Outcomes.{ends_by_disk}
+use Rattle.rm_replay.specs.Actor.Outcomes.{ends_by_disk}
 use Rattle.relay_word.specs.declared.station.Station.TheVariants.{One, Two, Three}
 use Rattle.rm_relay.specs.Shows.{Drives, drives_of}
 use Rattle.rm_relay.specs.declared.stage.Nodes3.{Nodes3}

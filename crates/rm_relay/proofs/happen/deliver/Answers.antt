@@ -3,7 +3,7 @@ use Rattle.std.proofs.lemmas.Option.{same_Some}
 use Rattle.std.proofs.lemmas.Result.{err_from_is_err_and}
 use Rattle.std.specs.Prelude.{Ok, Err}
 use Rattle.rm_base.specs.Numbered.{numbered}
-use Rattle.node_actor.specs.Outcomes.{is_disk_outcome}
+use Rattle.rm_replay.specs.Actor.Outcomes.{is_disk_outcome}
 use Rattle.rm_report.specs.declared.line.Outcome.{Outcome}
 use Rattle.rm_report.specs.declared.line.Outcome.TheVariants as told
 use Rattle.rm_node.specs.Asked as asks

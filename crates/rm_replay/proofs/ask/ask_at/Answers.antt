@@ -1,6 +1,6 @@
 use Rattle.std.proofs.Common.{refl}
 use Rattle.rm_protocol.specs.World.{Side, node}
-use Rattle.node_actor.specs.Outcomes.{is_disk}
+use Rattle.rm_replay.specs.Actor.Outcomes.{is_disk}
 use Rattle.rm_replay.specs.Asked.{step_of}
 use Rattle.rm_replay.specs.Shows.{drives_of}
 use Rattle.rm_replay.proofs.AskLemmas.{plays_step, was_asked}

@@ -1,5 +1,5 @@
 use Rattle.std.proofs.Common.{refl}
-use Rattle.node_actor.specs.Outcomes.{ends_by_disk}
+use Rattle.rm_replay.specs.Actor.Outcomes.{ends_by_disk}
 use Rattle.rm_replay.specs.Shows.{drives_of}
 use Rattle.rm_replay.proofs.CompactLemmas.{compacts_at_one, compacts_at_two, was_compacted}
 use Rattle.rm_replay.proofs.StepLemmas.{asked_at_one, asked_at_two}

@@ -2,7 +2,7 @@ use Rattle.std.proofs.Common.{◌∙◌, List, ℕ, sym, ap, subst}
 use Rattle.std.proofs.lemmas.Result.{err_from_is_err_and}
 use Rattle.rm_node.specs.Packets.{reply_packet}
 use Rattle.rm_node.specs.declared.packets.Out.{Out}
-use Rattle.node_actor.specs.Outcomes.{packets_in}
+use Rattle.rm_replay.specs.Actor.Outcomes.{packets_in}
 use Rattle.rm_replay.specs.Happening.{IsPutInPart, with_all}
 use Rattle.rm_replay.proofs.PutLemmas.{put_behind, put_none, with_all_append}
 use Rattle.rm_replay.proofs.wire.put_came.Goals as goal

@@ -1,9 +1,0 @@
-use Rattle.std.proofs.Common.{◌≡◌, ◌++◌, drop}
-use Rattle.rm_destination.specs.Incoming.{inbox}
-use Rattle.node_summary.specs.Summary.{items_text}
-use Rattle.node_summary.proofs.summary.push_items.Given as goal
-
-abbrev pub invariant-loop-before : goal.invariant-loop-before
-invariant-loop-before l =
-    l.out ++ items_text l.place l.before (drop l.before (inbox l.incoming.facts))
-    ≡ l.initial.out ++ items_text l.place 0 (inbox l.incoming.facts)

@@ -1,0 +1,3 @@
+-- The lemmas of `summary`.
+pub mod ItemLemmas
+pub mod SequenceLemmas

@@ -1,0 +1,2 @@
+-- The definitions of `summary`.
+pub mod Summary
