@@ -4,9 +4,9 @@ use Rattle.std.specs.Prelude.{◌↔◌}
 use lib.Utf8.{encode}
 use Rattle.std.specs.Str.{chars, is_utf8}
 use Rattle.rm_base.specs.Text.{IsText, is_text}
-use Rattle.relay_word.specs.World.{address_of}
-use Rattle.relay_word.specs.declared.station.Station.{Station}
-use Rattle.relay_word.specs.declared.station.Station.TheVariants.{One, Two, Three}
+use Rattle.rm_relay.specs.Word.World.{address_of}
+use Rattle.rm_relay.specs.declared.word.station.Station.{Station}
+use Rattle.rm_relay.specs.declared.word.station.Station.TheVariants.{One, Two, Three}
 
 -- the test of a text tells what a text is
 abbrev pub TextsAreTested : Type 0

@@ -19,9 +19,9 @@ use Rattle.rm_replay.specs.declared.actor.actor.Came.{Came}
 use Rattle.rm_replay.specs.Asked.{WasAsked}
 use Rattle.rm_replay.specs.TaleLemmas.{asked_none, rose_by_none, tells_none}
 use Rattle.rm_replay.specs.Tales.{Drive, Tells}
-use Rattle.relay_word.specs.World.{World, node}
-use Rattle.relay_word.specs.declared.station.Station.{Station}
-use Rattle.relay_word.specs.declared.station.Station.TheVariants.{One, Two, Three}
+use Rattle.rm_relay.specs.Word.World.{World, node}
+use Rattle.rm_relay.specs.declared.word.station.Station.{Station}
+use Rattle.rm_relay.specs.declared.word.station.Station.TheVariants.{One, Two, Three}
 use Rattle.rm_relay.specs.Happening.{CompactsAt, CrashesAt, StepsAt, WereAsked, WereAskedBy, step_of}
 use Rattle.rm_relay.specs.Played.{Grew}
 use Rattle.rm_relay.specs.Shows.{Drives}

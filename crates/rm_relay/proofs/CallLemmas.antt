@@ -21,10 +21,11 @@ use Rattle.rm_node.specs.declared.call.Call.TheVariants as call
 use Rattle.call_answers.specs.declared.answer.Wish.{Wish}
 use Rattle.rm_replay.specs.AllLemmas.{all_get, some_same}
 use Rattle.rm_replay.specs.Net.{AreOfNet, read_as, text_of}
-use Rattle.relay_word.specs.World.{Event, Packet, World, Close, Create, Deliver, End, Send, Tick, address_of, arrives}
-use Rattle.relay_word.specs.World.{asker, next, node, number_of, wish_of}
-use Rattle.relay_word.specs.declared.station.Station.{Station}
-use Rattle.relay_word.specs.declared.station.Station.TheVariants.{One}
+use Rattle.rm_relay.specs.Word.World.{Event, Packet, World, Close, Create, Deliver, End, Send, Tick, address_of}
+use Rattle.rm_relay.specs.Word.World.{arrives}
+use Rattle.rm_relay.specs.Word.World.{asker, next, node, number_of, wish_of}
+use Rattle.rm_relay.specs.declared.word.station.Station.{Station}
+use Rattle.rm_relay.specs.declared.word.station.Station.TheVariants.{One}
 use Rattle.rm_relay.specs.Happening.{step_of}
 use Rattle.rm_relay.specs.Meaning.{arrival}
 use Rattle.rm_relay.specs.Shows.{IsReadRight, Scene, Shows, wire_packet, wire_packets}

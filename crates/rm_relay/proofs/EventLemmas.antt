@@ -16,10 +16,10 @@ use Rattle.rm_disk.specs.Told.{Told}
 use Rattle.rm_replay.specs.Actor.Actored.{Actored}
 use Rattle.rm_replay.specs.Actor.Stands.{Leaves, Stands}
 use Rattle.rm_replay.specs.TaleLemmas.{tells_asked, tells_none}
-use Rattle.relay_word.specs.World.{Event, World, happens, node, packets_of, with_node}
-use Rattle.relay_word.specs.World.{Arm, Compact, Crash}
-use Rattle.relay_word.specs.declared.station.Station.{Station}
-use Rattle.relay_word.specs.declared.station.Station.TheVariants.{One, Two, Three}
+use Rattle.rm_relay.specs.Word.World.{Event, World, happens, node, packets_of, with_node}
+use Rattle.rm_relay.specs.Word.World.{Arm, Compact, Crash}
+use Rattle.rm_relay.specs.declared.word.station.Station.{Station}
+use Rattle.rm_relay.specs.declared.word.station.Station.TheVariants.{One, Two, Three}
 use Rattle.rm_relay.specs.Happening.{CompactsAt, CrashedAt, CrashedShort, Happened, Happens, Moves, Step, WereAsked}
 use Rattle.rm_relay.specs.Happening.{WereAskedBy, WereAskedFor, armed, compacted, moved, moved_in_part, told_of}
 use Rattle.rm_relay.specs.Meaning.{Means, ending_of}

@@ -4,8 +4,8 @@ use Rattle.rm_protocol.specs.Node.{Node, mounted, records}
 use Rattle.rm_protocol.specs.Sound.{Keeps}
 use Rattle.rm_replay.specs.Actor.LeftLemmas.{left_mounted}
 use Rattle.rm_replay.specs.Actor.Stands.{IsLeftOf, Leaves}
-use Rattle.relay_word.specs.Word.{KeepsAll}
-use Rattle.relay_word.specs.World.{World}
+use Rattle.rm_relay.specs.Word.Word.{KeepsAll}
+use Rattle.rm_relay.specs.Word.World.{World}
 use Rattle.rm_relay.specs.Headline.{Image, KeepsPromiseOf}
 use Rattle.rm_relay.specs.Shows.{Scene}
 

@@ -16,9 +16,9 @@ use Rattle.rm_replay.specs.Net.{text_of}
 use Rattle.sequence_table.specs.Idents.{polled_prefix}
 use Rattle.rm_protocol.specs.Pair.{Acted}
 use Rattle.sequence_table.specs.Words.{Text}
-use Rattle.relay_word.specs.World.{Packet, address_of, goes_to, packet_to, packets_of, station_at}
-use Rattle.relay_word.specs.declared.station.Station.{Station}
-use Rattle.relay_word.specs.declared.station.Station.TheVariants.{One, Two, Three}
+use Rattle.rm_relay.specs.Word.World.{Packet, address_of, goes_to, packet_to, packets_of, station_at}
+use Rattle.rm_relay.specs.declared.word.station.Station.{Station}
+use Rattle.rm_relay.specs.declared.word.station.Station.TheVariants.{One, Two, Three}
 use Rattle.rm_relay.specs.Putting.{Going, goes_by, going_of}
 use Rattle.rm_relay.proofs.PacketLemmas.{Leg, going, packets_for}
 

@@ -16,3 +16,4 @@ mod StatusLemmas
 mod StoryLemmas
 mod TaleLemmas
 mod WithinLemmas
+pub mod WordLemmas

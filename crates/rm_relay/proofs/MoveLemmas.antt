@@ -18,8 +18,8 @@ use Rattle.rm_replay.specs.declared.actor.actor.Came.{Came}
 use Rattle.rm_replay.specs.AllLemmas.{all_append, all_push, all_take, prefix_then}
 use Rattle.rm_replay.specs.Net.{AreOfNet}
 use Rattle.rm_replay.specs.ReadLemmas.{IsReadMessage}
-use Rattle.relay_word.specs.World.{Packet, World, goes_to, messages_in, packet_to, packets_of, puts, with_node}
-use Rattle.relay_word.specs.declared.station.Station.{Station}
+use Rattle.rm_relay.specs.Word.World.{Packet, World, goes_to, messages_in, packet_to, packets_of, puts, with_node}
+use Rattle.rm_relay.specs.declared.word.station.Station.{Station}
 use Rattle.rm_relay.specs.Happening.{Moves, Step, SteppedAt}
 use Rattle.rm_relay.specs.Putting.{Going, IsPutInPart, Net, going_of, goings_of, with_all}
 use Rattle.rm_relay.specs.Shows.{Drives, IsReadRight, Scene, Shows, StandFor}

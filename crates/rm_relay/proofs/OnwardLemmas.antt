@@ -26,11 +26,11 @@ use Rattle.rm_node.specs.declared.error.NodeError.{NodeError}
 use Rattle.rm_node.specs.declared.packets.Out.{Out}
 use Rattle.rm_replay.specs.Actor.Actored.{Actored}
 use Rattle.rm_replay.specs.Actor.Stands.{Stands, StandsBy}
-use Rattle.relay_word.specs.Ends.{AreEnds, acknowledged, first_incoming, first_outgoing, next_item}
-use Rattle.relay_word.specs.World.{World, Forward, Trim, forwards, happens, moves_two, packets_of, puts, sends_on}
-use Rattle.relay_word.specs.World.{trims}
-use Rattle.relay_word.specs.World.{with_node}
-use Rattle.relay_word.specs.declared.station.Station.TheVariants.{Two}
+use Rattle.rm_relay.specs.Word.Ends.{AreEnds, acknowledged, first_incoming, first_outgoing, next_item}
+use Rattle.rm_relay.specs.Word.World.{World, Forward, Trim, forwards, happens, moves_two, packets_of, puts, sends_on}
+use Rattle.rm_relay.specs.Word.World.{trims}
+use Rattle.rm_relay.specs.Word.World.{with_node}
+use Rattle.rm_relay.specs.declared.word.station.Station.TheVariants.{Two}
 use Rattle.rm_relay.specs.Forwards.{Forwards}
 use Rattle.rm_relay.specs.Happening.{step_of}
 use Rattle.rm_relay.specs.Meaning.{act_ending, act_or, ending_of, unless_down, unmoved}

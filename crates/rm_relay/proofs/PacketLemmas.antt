@@ -9,8 +9,8 @@ use Rattle.rm_message.specs.declared.message.Message.{Message}
 use Rattle.rm_network.specs.Wire.{has_room, texts_in}
 use Rattle.rm_protocol.specs.Terms.{Terms}
 use Rattle.rm_replay.specs.Net.{AreOfNet, text_of}
-use Rattle.relay_word.specs.World.{Packet, messages_in, number_of, packet_to, puts}
-use Rattle.relay_word.specs.declared.station.Station.{Station}
+use Rattle.rm_relay.specs.Word.World.{Packet, messages_in, number_of, packet_to, puts}
+use Rattle.rm_relay.specs.declared.word.station.Station.{Station}
 use Rattle.rm_relay.specs.Putting.{Going, Net, with_all, with_any, with_one}
 use Rattle.rm_relay.specs.Shows.{senders_of, wire_packet, wire_packets}
 use Rattle.rm_relay.proofs.PutLemmas.{net}

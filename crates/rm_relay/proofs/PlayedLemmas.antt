@@ -12,9 +12,9 @@ use Rattle.rm_replay.specs.Actor.Stands.{Leaves}
 use Rattle.node_laws.specs.OwnTerms.{OwnAreTerms}
 use Rattle.rm_replay.specs.Net.{AreOfNet}
 use Rattle.rm_replay.specs.NetLemmas.{are_terms}
-use Rattle.relay_word.specs.Word.{AreThree, EachRelayKeepsItsWord, KeepsAll}
-use Rattle.relay_word.specs.World.{Event, World, address_of, happens, run, start}
-use Rattle.relay_word.specs.declared.station.Station.TheVariants.{One, Two, Three}
+use Rattle.rm_relay.specs.Word.Word.{AreThree, EachRelayKeepsItsWord, KeepsAll}
+use Rattle.rm_relay.specs.Word.World.{Event, World, address_of, happens, run, start}
+use Rattle.rm_relay.specs.declared.word.station.Station.TheVariants.{One, Two, Three}
 use Rattle.rm_relay.specs.Headline.{KeepsPromiseIn, KeepsPromiseOf}
 use Rattle.rm_relay.specs.Meaning.{stepped}
 use Rattle.rm_relay.specs.Played.{Played, Story, none, more}

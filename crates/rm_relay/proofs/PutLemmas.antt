@@ -6,8 +6,8 @@ use Rattle.std.proofs.lemmas.List.{take-map}
 use Rattle.std.specs.Prelude.{Option, Some, None}
 use Rattle.rm_network.specs.Wire.{has_room, with_packet}
 use Rattle.rm_relay.specs.Putting.{Going, Net, IsPutInPart, with_all, with_any, with_one}
-use Rattle.relay_word.specs.World.{number_of}
-use Rattle.relay_word.specs.declared.station.Station.{Station}
+use Rattle.rm_relay.specs.Word.World.{number_of}
+use Rattle.rm_relay.specs.declared.word.station.Station.{Station}
 
 -- these packets, and these senders
 abbrev pub net : List (ℕ × List ℕ) → List Station → Net

@@ -13,9 +13,9 @@ use Rattle.rm_node.specs.declared.call.Call.{Call}
 use Rattle.rm_replay.specs.Actor.Steps.{answer_of, clocked}
 use Rattle.rm_replay.specs.AllLemmas.{all_parts}
 use Rattle.rm_replay.specs.ReadLemmas.{AreRead, IsReadMessage, kept_by, said_is_read}
-use Rattle.relay_word.specs.World.{World, node}
-use Rattle.relay_word.specs.declared.station.Station.{Station}
-use Rattle.relay_word.specs.declared.station.Station.TheVariants.{One, Two, Three}
+use Rattle.rm_relay.specs.Word.World.{World, node}
+use Rattle.rm_relay.specs.declared.word.station.Station.{Station}
+use Rattle.rm_relay.specs.declared.word.station.Station.TheVariants.{One, Two, Three}
 use Rattle.rm_relay.specs.Happening.{step_of}
 use Rattle.rm_relay.specs.Shows.{Drives, StandFor}
 use Rattle.rm_relay.specs.declared.stage.Nodes3.{Nodes3}

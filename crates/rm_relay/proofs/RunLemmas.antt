@@ -5,7 +5,7 @@ use Rattle.rm_base.specs.declared.failures.Memory.{Memory}
 use Rattle.rm_protocol.specs.Terms.{Terms}
 use Rattle.rm_replay.specs.TaleLemmas.{tells_from}
 use Rattle.rm_replay.specs.Net.{AreOfNet}
-use Rattle.relay_word.specs.declared.station.Station.{Station}
+use Rattle.rm_relay.specs.declared.word.station.Station.{Station}
 use Rattle.rm_relay.specs.Headline.{KeepsCut, KeepsPromise, KeepsPromiseIn, KeepsPromiseOf, KeepsShort}
 use Rattle.rm_relay.specs.Meaning.{stepped}
 use Rattle.rm_relay.specs.Played.{IsUnmade, Played, Ran, RanShort, Story, TellAll, WereSpared}

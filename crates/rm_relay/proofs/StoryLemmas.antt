@@ -15,12 +15,12 @@ use Rattle.rm_protocol.specs.Terms.{Terms}
 use Rattle.rm_protocol.specs.Word.{IsPrefixOf}
 use Rattle.rm_replay.specs.EntryLemmas.{entries_is}
 use Rattle.rm_replay.specs.TaleLemmas.{tells_none, tells_then}
-use Rattle.relay_word.specs.Ends.{first_incoming, first_outgoing}
-use Rattle.relay_word.specs.World.{Event, Packet, World, arrives, asker, forwards, happens, moves, moves_two, node}
-use Rattle.relay_word.specs.World.{Create, Send, Forward, Trim, Tick, Deliver, Close, End, Compact, Arm, Crash}
-use Rattle.relay_word.specs.World.{packets_of, trims, wish_of}
-use Rattle.relay_word.specs.declared.station.Station.{Station}
-use Rattle.relay_word.specs.declared.station.Station.TheVariants.{One, Two, Three}
+use Rattle.rm_relay.specs.Word.Ends.{first_incoming, first_outgoing}
+use Rattle.rm_relay.specs.Word.World.{Event, Packet, World, arrives, asker, forwards, happens, moves, moves_two, node}
+use Rattle.rm_relay.specs.Word.World.{Create, Send, Forward, Trim, Tick, Deliver, Close, End, Compact, Arm, Crash}
+use Rattle.rm_relay.specs.Word.World.{packets_of, trims, wish_of}
+use Rattle.rm_relay.specs.declared.word.station.Station.{Station}
+use Rattle.rm_relay.specs.declared.word.station.Station.TheVariants.{One, Two, Three}
 use Rattle.rm_relay.specs.Happening.{Happened}
 use Rattle.rm_relay.specs.Meaning.{Means, comes_out, report_of, stepped}
 use Rattle.rm_relay.specs.Played.{IsCut, Played, RanShort, beginning, more, none, tale_of, told_on}

@@ -7,8 +7,8 @@ use Rattle.rm_disk.specs.Call.{crashes_of}
 use Rattle.rm_replay.specs.Asked.{WasAsked}
 use Rattle.rm_replay.specs.Tales.{AreLeftBy, Drive, Tale, Tells}
 use Rattle.rm_replay.specs.TaleLemmas.{asked_none, none_more, one_more, risen, rose_some}
-use Rattle.relay_word.specs.declared.station.Station.{Station}
-use Rattle.relay_word.specs.declared.station.Station.TheVariants.{One, Two, Three}
+use Rattle.rm_relay.specs.declared.word.station.Station.{Station}
+use Rattle.rm_relay.specs.declared.word.station.Station.TheVariants.{One, Two, Three}
 use Rattle.rm_relay.specs.Played.{Grew, HasCrashed, crash_in, ends_by_disk, fault_at, same_station}
 use Rattle.rm_relay.specs.declared.event.Event.{Event as Said}
 use Rattle.rm_relay.specs.declared.event.Event.TheVariants as said

@@ -18,11 +18,11 @@ use Rattle.rm_replay.specs.Tales.{Tale, Tells}
 use Rattle.rm_relay.specs.Meaning.{Means, comes_out, stepped}
 use Rattle.rm_relay.specs.Played.{Grew, IsCut, crash_in, same_station, tale_of}
 use Rattle.rm_relay.specs.Shows.{Drives, Scene, Shows, StandFor}
-use Rattle.relay_word.specs.World.{Event, World, node, packets_of, puts, with_node}
+use Rattle.rm_relay.specs.Word.World.{Event, World, node, packets_of, puts, with_node}
 use Rattle.rm_relay.specs.declared.event.Event.{Event as Said}
 use Rattle.rm_relay.specs.declared.event.Event.TheVariants as said
-use Rattle.relay_word.specs.declared.station.Station.{Station}
-use Rattle.relay_word.specs.declared.station.Station.TheVariants.{One, Two, Three}
+use Rattle.rm_relay.specs.declared.word.station.Station.{Station}
+use Rattle.rm_relay.specs.declared.word.station.Station.TheVariants.{One, Two, Three}
 use Rattle.rm_relay.specs.declared.report.Ending.{Ending}
 use Rattle.rm_relay.specs.declared.report.Ending.TheVariants.{Came as came_out}
 use Rattle.rm_relay.specs.declared.stage.Nodes3.{Nodes3}

@@ -15,8 +15,8 @@ use Rattle.rm_relay.specs.Meaning.{Means, stepped}
 use Rattle.rm_relay.specs.Played.{IsUnmade, RanShort}
 use Rattle.rm_relay.specs.Shows.{Scene}
 use Rattle.rm_relay.specs.declared.event.Event.{Event as Said}
-use Rattle.relay_word.specs.Word.{KeepsRelay}
-use Rattle.relay_word.specs.World.{Event, World}
+use Rattle.rm_relay.specs.Word.Word.{KeepsRelay}
+use Rattle.rm_relay.specs.Word.World.{Event, World}
 
 -- an image of the disk of this node stands for batches, each of which is read back from its text. Their records are
 -- what one more crash would leave, beside all that the node then ever had; and they say what these say, but for items

@@ -11,3 +11,4 @@ pub mod Report
 pub mod Script
 pub mod Shows
 pub mod Within
+pub mod Word

@@ -13,12 +13,12 @@ use Rattle.rm_protocol.specs.Polls.{poll}
 use Rattle.rm_protocol.specs.Terms.{Terms}
 use Rattle.rm_protocol.specs.World.{received_by, with_clock}
 use Rattle.rm_replay.specs.Actor.Outcomes.{call_told}
-use Rattle.relay_word.specs.Ends.{first_incoming, first_outgoing, next_item}
-use Rattle.relay_word.specs.World.{Event, Packet, World, asker, forwards, happens, node, trims, wish_of}
-use Rattle.relay_word.specs.World.{Create, Send, Forward, Trim, Tick, Deliver, Close, End, Compact, Arm, Crash}
+use Rattle.rm_relay.specs.Word.Ends.{first_incoming, first_outgoing, next_item}
+use Rattle.rm_relay.specs.Word.World.{Event, Packet, World, asker, forwards, happens, node, trims, wish_of}
+use Rattle.rm_relay.specs.Word.World.{Create, Send, Forward, Trim, Tick, Deliver, Close, End, Compact, Arm, Crash}
 use Rattle.rm_relay.specs.declared.event.Event.{Event as Said}
 use Rattle.rm_relay.specs.declared.event.Event.TheVariants as said
-use Rattle.relay_word.specs.declared.station.Station.TheVariants.{One}
+use Rattle.rm_relay.specs.declared.word.station.Station.TheVariants.{One}
 use Rattle.rm_relay.specs.declared.report.Ending.{Ending}
 use Rattle.rm_relay.specs.declared.report.Ending.TheVariants.{Idle, Came}
 use Rattle.rm_relay.specs.declared.report.Line3.{Line3}

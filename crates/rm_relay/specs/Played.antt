@@ -15,12 +15,12 @@ use Rattle.rm_replay.specs.Asked.{WasAsked}
 use Rattle.rm_relay.specs.Meaning.{Means, comes_out, ending_of, report_of, stepped}
 use Rattle.rm_relay.specs.Report.{end_text, lines_text}
 use Rattle.rm_relay.specs.Shows.{Drives, Holds, IsFresh, IsLeftOfLine, Scene}
-use Rattle.relay_word.specs.World.{Event, Packet, World, asker, node, start}
-use Rattle.relay_word.specs.World.{Create, Send, Forward, Trim, Tick, Deliver, Close, End, Compact, Arm, Crash}
+use Rattle.rm_relay.specs.Word.World.{Event, Packet, World, asker, node, start}
+use Rattle.rm_relay.specs.Word.World.{Create, Send, Forward, Trim, Tick, Deliver, Close, End, Compact, Arm, Crash}
 use Rattle.rm_relay.specs.declared.event.Event.{Event as Said}
 use Rattle.rm_relay.specs.declared.event.Event.TheVariants as said
-use Rattle.relay_word.specs.declared.station.Station.{Station}
-use Rattle.relay_word.specs.declared.station.Station.TheVariants.{One, Two, Three}
+use Rattle.rm_relay.specs.declared.word.station.Station.{Station}
+use Rattle.rm_relay.specs.declared.word.station.Station.TheVariants.{One, Two, Three}
 use Rattle.rm_relay.specs.declared.report.Ending.{Ending}
 use Rattle.rm_relay.specs.declared.report.Ending.TheVariants.{Idle, Came}
 use Rattle.rm_relay.specs.declared.report.Line3.{Line3}

@@ -7,10 +7,10 @@ use Rattle.rm_relay.specs.Meaning.{Means, comes_out, report_of, stepped}
 use Rattle.rm_relay.specs.Played.{IsCut, Played, RanShort, Story, TellAll, tale_of}
 use Rattle.rm_relay.specs.Report.{lines_text}
 use Rattle.rm_relay.specs.Shows.{Scene, Shows}
-use Rattle.relay_word.specs.World.{Event, World}
+use Rattle.rm_relay.specs.Word.World.{Event, World}
 use Rattle.rm_relay.specs.declared.event.Event.{Event as Said}
-use Rattle.relay_word.specs.declared.station.Station.{Station}
-use Rattle.relay_word.specs.declared.station.Station.TheVariants.{One, Two, Three}
+use Rattle.rm_relay.specs.declared.word.station.Station.{Station}
+use Rattle.rm_relay.specs.declared.word.station.Station.TheVariants.{One, Two, Three}
 use Rattle.rm_relay.specs.declared.stage.Nodes3.{Nodes3}
 
 -- a line was played that means this event, and the report has its line

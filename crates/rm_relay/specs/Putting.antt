@@ -6,8 +6,8 @@ use Rattle.rm_replay.specs.Actor.Outcomes.{packets_in}
 use Rattle.rm_replay.specs.declared.actor.actor.Came.{Came}
 use Rattle.rm_protocol.specs.Addresses.{is_anonymous}
 use Rattle.sequence_table.specs.Words.{Text}
-use Rattle.relay_word.specs.World.{number_of, station_at}
-use Rattle.relay_word.specs.declared.station.Station.{Station}
+use Rattle.rm_relay.specs.Word.World.{number_of, station_at}
+use Rattle.rm_relay.specs.declared.word.station.Station.{Station}
 
 -- a packet that leaves a node: the node that it goes to, where it goes to one, and its bytes
 pub record Going : Type 0 where

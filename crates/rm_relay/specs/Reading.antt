@@ -8,8 +8,8 @@ use Rattle.rm_script.specs.declared.event.Side.TheVariants as side
 use Rattle.rm_relay.specs.declared.event.Event.{Event}
 use Rattle.rm_relay.specs.declared.event.Event.TheVariants.{Nothing, Create, Send, Forward, Trim, Tick, Deliver, Close}
 use Rattle.rm_relay.specs.declared.event.Event.TheVariants.{End, Compact, Arm, Crash}
-use Rattle.relay_word.specs.declared.station.Station.{Station}
-use Rattle.relay_word.specs.declared.station.Station.TheVariants.{One, Two, Three}
+use Rattle.rm_relay.specs.declared.word.station.Station.{Station}
+use Rattle.rm_relay.specs.declared.word.station.Station.TheVariants.{One, Two, Three}
 
 -- a node's number at the front, and what stands behind it
 abbrev pub station_in : List ℕ → Option (Station × List ℕ)

@@ -2,7 +2,7 @@
 use Rattle.std.specs.Prelude.{ℕ, List, [], ◌∷◌, ◌++◌, codes, decimal}
 use Rattle.rm_report.specs.Report.{outcome_text}
 use Rattle.rm_replay.specs.Played.{known_text}
-use Rattle.relay_word.specs.World.{World}
+use Rattle.rm_relay.specs.Word.World.{World}
 use Rattle.rm_relay.specs.declared.report.Ending.{Ending}
 use Rattle.rm_relay.specs.declared.report.Ending.TheVariants.{Idle, Came}
 use Rattle.rm_relay.specs.declared.report.Line3.{Line3}

@@ -6,8 +6,8 @@ use Rattle.rm_script.specs.Script.{IsNumber, side_text, spaced}
 use Rattle.rm_relay.specs.declared.event.Event.{Event}
 use Rattle.rm_relay.specs.declared.event.Event.TheVariants.{Nothing, Create, Send, Forward, Trim, Tick, Deliver, Close}
 use Rattle.rm_relay.specs.declared.event.Event.TheVariants.{End, Compact, Arm, Crash}
-use Rattle.relay_word.specs.declared.station.Station.{Station}
-use Rattle.relay_word.specs.declared.station.Station.TheVariants.{One, Two, Three}
+use Rattle.rm_relay.specs.declared.word.station.Station.{Station}
+use Rattle.rm_relay.specs.declared.word.station.Station.TheVariants.{One, Two, Three}
 
 -- a node's number
 abbrev pub station_text : Station → List ℕ

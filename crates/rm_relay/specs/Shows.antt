@@ -10,9 +10,9 @@ use Rattle.rm_replay.specs.Net.{read_as, text_of}
 use Rattle.rm_replay.specs.Shows.{drive_of}
 use Rattle.rm_replay.specs.Tales.{Drive}
 use Rattle.rm_relay.specs.Meaning.{Means}
-use Rattle.relay_word.specs.World.{Event, Packet, World, happens, number_of}
+use Rattle.rm_relay.specs.Word.World.{Event, Packet, World, happens, number_of}
 use Rattle.rm_relay.specs.declared.event.Event.{Event as Said}
-use Rattle.relay_word.specs.declared.station.Station.{Station}
+use Rattle.rm_relay.specs.declared.word.station.Station.{Station}
 use Rattle.rm_relay.specs.declared.stage.Nodes3.{Nodes3}
 use Rattle.rm_relay.specs.declared.stage.Stage3.{Stage3}
 

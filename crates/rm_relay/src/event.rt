@@ -1,6 +1,6 @@
 //! What a line of a relay's script says.
 
-use relay_word::Station;
+use crate::word::Station;
 use rm_base::Blob;
 use rm_script::Side;
 

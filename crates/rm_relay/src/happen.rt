@@ -11,7 +11,7 @@ ghost use Rattle.rm_relay.specs.Happening.{CompactsAt, CrashesAt, Happens, Moves
 ghost use Rattle.rm_relay.specs.Happening.{WereAskedFor, armed as armed_world, step_of, told_of};
 ghost use Rattle.rm_relay.specs.Shows.{Shows, StandFor, drives_of, scene_of};
 ghost use Rattle.rm_relay.specs.Within.{IsWithin};
-ghost use Rattle.relay_word.specs.World.{World, address_of, asker as asker_of, next, node as node_at};
+ghost use Rattle.rm_relay.specs.Word.World.{World, address_of, asker as asker_of, next, node as node_at};
 
 use crate::event::Event;
 use crate::onward::{find_acknowledged, find_ends, find_next};
@@ -24,7 +24,7 @@ use rm_replay::actor::laws::each_image_is_left;
 use node_laws::laws::{each_message_keeps_the_rules, what_waits_keeps_the_rules};
 use read_laws::laws::{a_refusal_may_be_answered, what_is_read_may_be_written};
 use record_batch::Via;
-use relay_word::Station;
+use crate::word::Station;
 use rm_base::laws::texts_are_tested;
 use rm_base::{Lapse, Memory, TextError, Uri};
 use rm_disk::CrashDisk;

@@ -12,7 +12,7 @@ ghost use Rattle.rm_relay.specs.Within.{IsWithin};
 ghost use Rattle.rm_relay.specs.declared.event.Event.{Event as Said};
 
 use node_laws::laws::own_terms_are_terms;
-use relay_word::laws::every_relay_keeps_its_word;
+use crate::word::laws::every_relay_keeps_its_word;
 
 /// A line is read from left to right exactly as the grammar says.
 pub fn each_line_is_read()

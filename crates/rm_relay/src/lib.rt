@@ -21,3 +21,5 @@ pub use event::Event;
 pub use onward::{Ends, find_ends, forward, may_forward, trim};
 pub use relay::relay_run;
 pub use stage::Stage3;
+
+pub mod word;

@@ -19,7 +19,7 @@ ghost use Rattle.rm_relay.specs.Reading.{
 };
 
 use crate::event::Event;
-use relay_word::Station;
+use crate::word::Station;
 use rm_base::limits::{MOST_PACKETS, MOST_SEQUENCES, NOW_MAX};
 use rm_base::{Blob, Memory};
 use rm_script::Side;

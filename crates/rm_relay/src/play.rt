@@ -6,7 +6,7 @@ ghost use Rattle.rm_replay.specs.Net.{AreOfNet};
 ghost use Rattle.rm_relay.specs.Playing.{Plays, PlaysLine};
 ghost use Rattle.rm_relay.specs.Shows.{Shows, scene_of};
 ghost use Rattle.rm_relay.specs.Within.{IsWithin};
-ghost use Rattle.relay_word.specs.World.{World, start};
+ghost use Rattle.rm_relay.specs.Word.World.{World, start};
 
 use crate::event::Event;
 use crate::happen::happen;

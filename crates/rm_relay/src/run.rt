@@ -8,7 +8,7 @@ ghost use Rattle.rm_relay.specs.Played.{IsUnmade, Ran, RanShort, WereSpared};
 ghost use Rattle.rm_relay.specs.Report.{end_text};
 ghost use Rattle.rm_relay.specs.Shows.{Drives, IsFresh, Shows, StandFor, drives_of, scene_of};
 ghost use Rattle.rm_relay.specs.Within.{IsWithin};
-ghost use Rattle.relay_word.specs.World.{World, start};
+ghost use Rattle.rm_relay.specs.Word.World.{World, start};
 
 use crate::event::Event;
 use crate::happen::address;
@@ -17,7 +17,7 @@ use crate::play::play;
 use crate::stage::{Nodes3, Stage3};
 use rm_replay::actor::Actor;
 use rm_replay::actor::laws::each_image_is_left;
-use relay_word::Station;
+use crate::word::Station;
 use rm_base::{Blob, Memory};
 use rm_disk::CrashDisk;
 use rm_network::Wire;

@@ -2,11 +2,11 @@
 ghost use Rattle.std.specs.Prelude.{◌≡◌, IfOk, OnErr, OnOk, map};
 ghost use Rattle.rm_node.specs.Packets.{reply_packet};
 ghost use Rattle.rm_relay.specs.Putting.{IsPutInPart, goes_by, going_of, goings_of, net_of, with_all, with_one};
-ghost use Rattle.relay_word.specs.World.{address_of, number_of, station_at as station_of};
+ghost use Rattle.rm_relay.specs.Word.World.{address_of, number_of, station_at as station_of};
 
 use rm_replay::actor::Came;
 use node_messages::is_anonymous;
-use relay_word::Station;
+use crate::word::Station;
 use rm_base::{Blob, Memory};
 use rm_network::Wire;
 use rm_node::Out;

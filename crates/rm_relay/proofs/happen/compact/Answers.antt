@@ -1,6 +1,6 @@
 use Rattle.std.proofs.Common.{refl}
 use Rattle.rm_replay.specs.Actor.Outcomes.{ends_by_disk}
-use Rattle.relay_word.specs.declared.station.Station.TheVariants.{One, Two, Three}
+use Rattle.rm_relay.specs.declared.word.station.Station.TheVariants.{One, Two, Three}
 use Rattle.rm_relay.specs.Shows.{Drives, drives_of}
 use Rattle.rm_relay.specs.declared.stage.Nodes3.{Nodes3}
 use Rattle.rm_relay.proofs.AskLemmas.{asked_by, asked_one, asked_three, asked_two, compacts_at, compacts_one}

@@ -1,5 +1,5 @@
 use Rattle.std.proofs.Common.{refl}
-use Rattle.relay_word.specs.declared.station.Station.TheVariants.{One, Two, Three}
+use Rattle.rm_relay.specs.declared.word.station.Station.TheVariants.{One, Two, Three}
 use Rattle.rm_relay.specs.Shows.{Drives, drives_of}
 use Rattle.rm_relay.specs.declared.stage.Nodes3.{Nodes3}
 use Rattle.rm_relay.proofs.AskLemmas.{crash_one, crash_three, crash_two, crashes_at}

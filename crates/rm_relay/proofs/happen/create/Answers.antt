@@ -2,7 +2,7 @@ use Rattle.std.proofs.Common.{◌∙◌, None, ap, refl}
 use Rattle.std.proofs.lemmas.Result.{err_from_is_err_and}
 use Rattle.rm_node.specs.Asked as asks
 use Rattle.rm_node.specs.declared.call.Call.TheVariants as call
-use Rattle.relay_word.specs.World.{Create, address_of, node, wish_of}
+use Rattle.rm_relay.specs.Word.World.{Create, address_of, node, wish_of}
 use Rattle.rm_relay.specs.Happening.{step_of}
 use Rattle.rm_relay.specs.Shows.{scene_of}
 use Rattle.rm_relay.specs.declared.event.Event.TheVariants as said

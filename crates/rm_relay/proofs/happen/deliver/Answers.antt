@@ -9,8 +9,8 @@ use Rattle.rm_report.specs.declared.line.Outcome.TheVariants as told
 use Rattle.rm_node.specs.Asked as asks
 use Rattle.rm_node.specs.Asked.{IsReceived}
 use Rattle.rm_node.specs.declared.call.Call.TheVariants as call
-use Rattle.relay_word.specs.World.{Deliver, node}
-use Rattle.relay_word.specs.declared.station.Station.{Station}
+use Rattle.rm_relay.specs.Word.World.{Deliver, node}
+use Rattle.rm_relay.specs.declared.word.station.Station.{Station}
 use Rattle.rm_relay.specs.Happening.{WereAsked, step_of}
 use Rattle.rm_relay.specs.Shows.{drives_of, scene_of}
 use Rattle.rm_relay.specs.declared.event.Event.TheVariants as said

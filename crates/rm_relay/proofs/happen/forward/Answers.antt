@@ -6,9 +6,9 @@ use Rattle.rm_report.specs.declared.line.Outcome.TheVariants as told
 use Rattle.rm_protocol.specs.Node.{State, Up, records}
 use Rattle.rm_node.specs.Asked as asks
 use Rattle.rm_node.specs.declared.call.Call.TheVariants as call
-use Rattle.relay_word.specs.Ends.{AreEnds, next_item}
-use Rattle.relay_word.specs.World.{Forward}
-use Rattle.relay_word.specs.declared.station.Station.TheVariants.{Two}
+use Rattle.rm_relay.specs.Word.Ends.{AreEnds, next_item}
+use Rattle.rm_relay.specs.Word.World.{Forward}
+use Rattle.rm_relay.specs.declared.word.station.Station.TheVariants.{Two}
 use Rattle.rm_relay.specs.Happening.{step_of}
 use Rattle.rm_relay.specs.Shows.{scene_of}
 use Rattle.rm_relay.specs.declared.event.Event.TheVariants as said

@@ -3,8 +3,8 @@ use Rattle.std.proofs.lemmas.Result.{err_from_is_err_and}
 use Rattle.rm_report.specs.declared.line.Outcome.TheVariants as told
 use Rattle.rm_node.specs.Asked as asks
 use Rattle.rm_node.specs.declared.call.Call.TheVariants as call
-use Rattle.relay_word.specs.World.{Close, End, Send, Tick, node}
-use Rattle.relay_word.specs.declared.station.Station.TheVariants.{One}
+use Rattle.rm_relay.specs.Word.World.{Close, End, Send, Tick, node}
+use Rattle.rm_relay.specs.declared.word.station.Station.TheVariants.{One}
 use Rattle.rm_relay.specs.Happening.{Happened, step_of}
 use Rattle.rm_relay.specs.Played.{IsCut}
 use Rattle.rm_relay.specs.Shows.{drives_of, scene_of}

@@ -4,9 +4,9 @@ use Rattle.rm_report.specs.declared.line.Outcome.TheVariants as told
 use Rattle.rm_protocol.specs.Node.{records}
 use Rattle.rm_node.specs.Asked as asks
 use Rattle.rm_node.specs.declared.call.Call.TheVariants as call
-use Rattle.relay_word.specs.Ends.{AreEnds, acknowledged}
-use Rattle.relay_word.specs.World.{Trim}
-use Rattle.relay_word.specs.declared.station.Station.TheVariants.{Two}
+use Rattle.rm_relay.specs.Word.Ends.{AreEnds, acknowledged}
+use Rattle.rm_relay.specs.Word.World.{Trim}
+use Rattle.rm_relay.specs.declared.word.station.Station.TheVariants.{Two}
 use Rattle.rm_relay.specs.Happening.{step_of}
 use Rattle.rm_relay.specs.Shows.{scene_of}
 use Rattle.rm_relay.specs.declared.event.Event.TheVariants as said

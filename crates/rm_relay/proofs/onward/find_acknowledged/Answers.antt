@@ -1,5 +1,5 @@
 use Rattle.sequence_table.specs.Fits.{is_outgoing_side}
-use Rattle.relay_word.specs.FirstLemmas.{found-side}
+use Rattle.rm_relay.specs.Word.FirstLemmas.{found-side}
 use Rattle.rm_relay.proofs.onward.find_acknowledged.Goals as goal
 
 pub acknowledged_front-requires : goal.acknowledged_front-requires

@@ -2,7 +2,7 @@ use Rattle.std.proofs.Common.{◌∙◌, ◌+◌, ◌<◌, drop, cond, length, s
 use Rattle.sequence_table.specs.Find.{find_from}
 use Rattle.sequence_table.specs.Fits.{is_incoming_side}
 use Rattle.sequence_table.specs.Makers.{makers}
-use Rattle.relay_word.specs.FirstLemmas.{find-step, tested}
+use Rattle.rm_relay.specs.Word.FirstLemmas.{find-step, tested}
 use Rattle.rm_relay.proofs.onward.find_first_incoming.Goals as goal
 
 pub returns-then-is_incoming : goal.returns-then-is_incoming

@@ -2,7 +2,7 @@ use Rattle.std.proofs.Common.{◌∙◌, ◌+◌, ◌<◌, drop, cond, length, s
 use Rattle.sequence_table.specs.Find.{find_from}
 use Rattle.sequence_table.specs.Fits.{is_outgoing_side}
 use Rattle.sequence_table.specs.Makers.{makers}
-use Rattle.relay_word.specs.FirstLemmas.{find-step, tested}
+use Rattle.rm_relay.specs.Word.FirstLemmas.{find-step, tested}
 use Rattle.rm_relay.proofs.onward.find_first_outgoing.Goals as goal
 
 pub returns-then-is_outgoing : goal.returns-then-is_outgoing

@@ -2,8 +2,8 @@ use Rattle.std.proofs.Common.{◌≡◌, drop}
 use Rattle.sequence_table.specs.Find.{find_from}
 use Rattle.sequence_table.specs.Fits.{is_outgoing_side}
 use Rattle.sequence_table.specs.Makers.{makers}
-use Rattle.relay_word.specs.Ends.{first_outgoing}
-use Rattle.relay_word.specs.FirstLemmas.{tested}
+use Rattle.rm_relay.specs.Word.Ends.{first_outgoing}
+use Rattle.rm_relay.specs.Word.FirstLemmas.{tested}
 use Rattle.rm_relay.proofs.onward.find_first_outgoing.Given as goal
 
 abbrev pub invariant-loop-before : goal.invariant-loop-before

@@ -1,5 +1,5 @@
 use Rattle.sequence_table.specs.Fits.{is_incoming_side, is_outgoing_side}
-use Rattle.relay_word.specs.FirstLemmas.{found-side}
+use Rattle.rm_relay.specs.Word.FirstLemmas.{found-side}
 use Rattle.rm_relay.proofs.onward.find_next.Goals as goal
 
 pub accepted_len-accepted-requires : goal.accepted_len-accepted-requires

@@ -3,7 +3,7 @@ use Rattle.std.specs.Option.{option_copied}
 use Rattle.std.proofs.lemmas.Result.{err_from_is_err_and}
 use Rattle.std.specs.Prelude.{Err}
 use Rattle.rm_node.specs.declared.error.NodeError.TheVariants as error
-use Rattle.relay_word.specs.Ends.{next_item}
+use Rattle.rm_relay.specs.Word.Ends.{next_item}
 use Rattle.rm_relay.proofs.OnwardLemmas.{forwards_failed, forwards_none, forwards_sent, forwards_unsent, next_here}
 use Rattle.rm_relay.proofs.onward.forward.Goals as goal
 

@@ -2,7 +2,7 @@ use Rattle.std.proofs.Common.{◌≡◌, ◌+◌, ◌++◌, ◌∷◌, ℕ, List
 use Rattle.std.proofs.lemmas.Result.{err_from_is_err_and}
 use Rattle.std.specs.Vec.Iter.{into_iter_items}
 use Rattle.rm_base.specs.IteratorLemmas.{taken_front}
-use Rattle.relay_word.specs.declared.station.Station.{Station}
+use Rattle.rm_relay.specs.declared.word.station.Station.{Station}
 use Rattle.rm_relay.specs.Playing.{AllPlayed}
 use Rattle.rm_relay.specs.Shows.{scene_of}
 use Rattle.rm_relay.proofs.StoryLemmas.{played_more, played_none, short_line}

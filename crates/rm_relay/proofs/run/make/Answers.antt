@@ -2,7 +2,7 @@ use Rattle.std.proofs.Common.{inl, inr, refl}
 use Rattle.std.proofs.lemmas.Result.{err_from_is_err_and}
 use Rattle.rm_replay.specs.Shows.{drive_of}
 use Rattle.rm_replay.specs.TaleLemmas.{asked_none, spared_by}
-use Rattle.relay_word.specs.World.{start}
+use Rattle.rm_relay.specs.Word.World.{start}
 use Rattle.rm_relay.proofs.run.make.Goals as goal
 
 pub returns-in_err-one-clause-unmade : goal.returns-in_err-one-clause-unmade

@@ -2,7 +2,7 @@ use Rattle.std.proofs.Common.{◌≡◌, ◌∙◌, ◌+◌, ◌∷◌, ◌++◌
 use Rattle.std.proofs.lemmas.List.{map-append, take_more}
 use Rattle.std.proofs.lemmas.Result.{err_from_is_err_and}
 use Rattle.rm_node.specs.declared.packets.Out.{Out}
-use Rattle.relay_word.specs.declared.station.Station.{Station}
+use Rattle.rm_relay.specs.declared.word.station.Station.{Station}
 use Rattle.rm_relay.specs.Putting.{Going, Net, goes_by, going_of, net_of, with_all, with_any}
 use Rattle.rm_relay.proofs.PutLemmas.{put_nowhere, put_so_far, put_some, with_all_push}
 use Rattle.rm_relay.proofs.wire.put_all.Goals as goal

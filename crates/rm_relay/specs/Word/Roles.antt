@@ -9,10 +9,10 @@ use Rattle.sequence_table.specs.Words.{Text}
 use Rattle.rm_protocol.specs.Next.{HasNumbers}
 use Rattle.rm_protocol.specs.Pair.{IsStranger, TellsOf}
 use Rattle.rm_protocol.specs.Sound.{IsAsked, IsIssuedBy, Says}
-use Rattle.relay_word.specs.World.{number_of}
-use Rattle.relay_word.specs.World.{address_of}
-use Rattle.relay_word.specs.declared.station.Station.{Station}
-use Rattle.relay_word.specs.declared.station.Station.TheVariants.{One, Two, Three}
+use Rattle.rm_relay.specs.Word.World.{number_of}
+use Rattle.rm_relay.specs.Word.World.{address_of}
+use Rattle.rm_relay.specs.declared.word.station.Station.{Station}
+use Rattle.rm_relay.specs.declared.word.station.Station.TheVariants.{One, Two, Three}
 
 -- the node before one
 abbrev pub before : Station → Option Station

@@ -17,8 +17,8 @@ use Rattle.sequence_table.specs.Makers.{Maker, makers, makers_of}
 use Rattle.sequence_table.specs.Sources.{accepted, accepted_of}
 use Rattle.rm_protocol.specs.Consumed.{GoesOn}
 use Rattle.rm_protocol.specs.Word.{IsPrefixOf}
-use Rattle.relay_word.specs.Ends.{first_incoming, first_outgoing}
-use Rattle.relay_word.specs.FirstLemmas.{numbered-at, tested}
+use Rattle.rm_relay.specs.Word.Ends.{first_incoming, first_outgoing}
+use Rattle.rm_relay.specs.Word.FirstLemmas.{numbered-at, tested}
 
 -- ---- prefixes
 

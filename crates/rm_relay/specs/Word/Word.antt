@@ -8,9 +8,9 @@ use Rattle.rm_protocol.specs.Pair.{IsMade}
 use Rattle.rm_protocol.specs.Sound.{Keeps}
 use Rattle.rm_protocol.specs.Terms.{AreTerms, Terms}
 use Rattle.rm_protocol.specs.Word.{Has, IsPrefixOf, Matches, history}
-use Rattle.relay_word.specs.Ends.{AreEnds, IsAhead}
-use Rattle.relay_word.specs.World.{Event, World, address_of, run, start}
-use Rattle.relay_word.specs.declared.station.Station.TheVariants.{One, Two, Three}
+use Rattle.rm_relay.specs.Word.Ends.{AreEnds, IsAhead}
+use Rattle.rm_relay.specs.Word.World.{Event, World, address_of, run, start}
+use Rattle.rm_relay.specs.declared.word.station.Station.TheVariants.{One, Two, Three}
 
 -- Of the nodes with records a, b and c, each beside all that it ever had. What the second one ever accepted on its
 -- first outgoing sequence is a prefix of what it consumed of its first incoming one followed by the inbox past the

@@ -9,10 +9,10 @@ use Rattle.rm_destination.specs.Incoming.{is_loose}
 use Rattle.sequence_table.specs.Destinations.{behaviour, behaviour_of}
 use Rattle.sequence_table.specs.Makers.{Maker, Outgoing, Offered, Incoming, Taken, maker, makers, makers_of}
 use Rattle.rm_protocol.specs.Announced.{IsGrantedSo}
-use Rattle.relay_word.specs.Roles.{HasRole, IsOfRole}
-use Rattle.relay_word.specs.declared.station.Station.{Station}
-use Rattle.relay_word.proofs.RoleLemmas.{all-append}
-use Rattle.relay_word.proofs.StrangeLemmas.{all-numbered, role-of}
+use Rattle.rm_relay.specs.Word.Roles.{HasRole, IsOfRole}
+use Rattle.rm_relay.specs.declared.word.station.Station.{Station}
+use Rattle.rm_relay.proofs.WordLemmas.RoleLemmas.{all-append}
+use Rattle.rm_relay.proofs.WordLemmas.StrangeLemmas.{all-numbered, role-of}
 
 -- this was announced for the sequence, where it was granted
 abbrev IsMadeSo : Behaviour → Maker → Type 0

@@ -19,9 +19,9 @@ use Rattle.rm_protocol.specs.Pair.{Act, Acted, Arms, Closes, Compacts, Consumes,
 use Rattle.rm_protocol.specs.Pair.{Sends, Ticks, acted}
 use Rattle.rm_protocol.specs.Terms.{Terms}
 use Rattle.rm_protocol.specs.World.{made}
-use Rattle.relay_word.specs.Ends.{acknowledged, first_incoming, first_outgoing, next_item}
-use Rattle.relay_word.specs.declared.station.Station.{Station}
-use Rattle.relay_word.specs.declared.station.Station.TheVariants.{One, Two, Three}
+use Rattle.rm_relay.specs.Word.Ends.{acknowledged, first_incoming, first_outgoing, next_item}
+use Rattle.rm_relay.specs.declared.word.station.Station.{Station}
+use Rattle.rm_relay.specs.declared.word.station.Station.TheVariants.{One, Two, Three}
 
 -- a message on the wire: the node that sent it, and the node that it goes to
 pub record Packet : Type 0 where

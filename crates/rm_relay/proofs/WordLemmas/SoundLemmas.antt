@@ -16,14 +16,14 @@ use Rattle.rm_protocol.specs.Pair.{Acted, IsAmong, IsParked, left}
 use Rattle.rm_protocol.specs.Polls.{waits_there}
 use Rattle.rm_protocol.specs.Sound.{IsAskedAt, Says, SaysPlace}
 use Rattle.rm_protocol.specs.Terms.{Terms}
-use Rattle.relay_word.specs.FirstLemmas.{numbered-at}
-use Rattle.relay_word.specs.Roles.{HasRole}
-use Rattle.relay_word.specs.World.{Packet, address_of, goes_to, messages_in, packet_to, packets_of, puts}
-use Rattle.relay_word.specs.World.{station_at}
-use Rattle.relay_word.specs.declared.station.Station.{Station}
-use Rattle.relay_word.specs.declared.station.Station.TheVariants.{One, Two, Three}
-use Rattle.relay_word.proofs.RoleLemmas.{IsBehind, IsRouted, all-append, all-behind, all-weaker}
-use Rattle.relay_word.proofs.StrangeLemmas.{role-of}
+use Rattle.rm_relay.specs.Word.FirstLemmas.{numbered-at}
+use Rattle.rm_relay.specs.Word.Roles.{HasRole}
+use Rattle.rm_relay.specs.Word.World.{Packet, address_of, goes_to, messages_in, packet_to, packets_of, puts}
+use Rattle.rm_relay.specs.Word.World.{station_at}
+use Rattle.rm_relay.specs.declared.word.station.Station.{Station}
+use Rattle.rm_relay.specs.declared.word.station.Station.TheVariants.{One, Two, Three}
+use Rattle.rm_relay.proofs.WordLemmas.RoleLemmas.{IsBehind, IsRouted, all-append, all-behind, all-weaker}
+use Rattle.rm_relay.proofs.WordLemmas.StrangeLemmas.{role-of}
 
 -- ---- members of lists
 

@@ -20,12 +20,12 @@ use Rattle.rm_protocol.specs.Pair.{Act, Creates, Grants, Sends, Ticks, Closes, E
 use Rattle.rm_protocol.specs.Pair.{Consumes, Receives, Compacts, Arms, Crashes, Brings, Gained, IsQuiet, IssuedByOne}
 use Rattle.rm_protocol.specs.Pair.{AreBrought, IsWished}
 use Rattle.rm_protocol.specs.Sound.{Allows, IsGranted, IsIssuedBy, Justified, Says, SaysCreate}
-use Rattle.relay_word.specs.Roles.{HasRole, IsOfRole, Known, before, behind}
-use Rattle.relay_word.specs.World.{number_of}
-use Rattle.relay_word.specs.World.{address_of}
-use Rattle.relay_word.specs.declared.station.Station.{Station}
-use Rattle.relay_word.specs.declared.station.Station.TheVariants.{One, Two, Three}
-use Rattle.relay_word.proofs.StrangeLemmas.{answers, behind-before, issued-same}
+use Rattle.rm_relay.specs.Word.Roles.{HasRole, IsOfRole, Known, before, behind}
+use Rattle.rm_relay.specs.Word.World.{number_of}
+use Rattle.rm_relay.specs.Word.World.{address_of}
+use Rattle.rm_relay.specs.declared.word.station.Station.{Station}
+use Rattle.rm_relay.specs.declared.word.station.Station.TheVariants.{One, Two, Three}
+use Rattle.rm_relay.proofs.WordLemmas.StrangeLemmas.{answers, behind-before, issued-same}
 
 pub all-append : {A : Type 0} (P : A → Type 0) (xs ys : List A) → AllByRecursion P xs → AllByRecursion P ys
     → AllByRecursion P (xs ++ ys)

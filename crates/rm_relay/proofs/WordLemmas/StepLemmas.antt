@@ -28,25 +28,25 @@ use Rattle.rm_protocol.specs.Pair.{Polls, Consumes, Receives, Compacts, Arms, Cr
 use Rattle.rm_protocol.specs.Pair.{IsQuiet, IsWished, MadeAreAPair, MayBefall, MayCome, TellsOf}
 use Rattle.rm_protocol.specs.Sound.{Keeps, NothingIsGone, Says}
 use Rattle.rm_protocol.specs.Terms.{AreTerms, Terms}
-use Rattle.relay_word.specs.Ends.{acknowledged, first_incoming, first_outgoing, next_item}
-use Rattle.relay_word.specs.Roles.{before, behind}
-use Rattle.relay_word.specs.Word.{AreThree}
-use Rattle.relay_word.specs.World.{Event, Packet, World, address_of, arrives, asker, forwards, happens, moves}
-use Rattle.relay_word.specs.World.{moves_two}
-use Rattle.relay_word.specs.World.{run, sends_on, start, trims, wish_of}
-use Rattle.relay_word.specs.World.{Create, Send, Forward, Trim, Tick, Deliver, Close, End, Compact, Arm, Crash}
-use Rattle.relay_word.specs.declared.station.Station.{Station}
-use Rattle.relay_word.specs.declared.station.Station.TheVariants.{One, Two, Three}
-use Rattle.relay_word.specs.FirstLemmas.{tested}
-use Rattle.relay_word.proofs.ForwardLemmas.{IsNoAccept, MayRelay}
-use Rattle.relay_word.proofs.ReleasedLemmas.{item-there}
-use Rattle.relay_word.proofs.RoleLemmas.{RoleAct, all-weaker}
-use Rattle.relay_word.proofs.RoleLemmas.{batch-role, heard-roles, refused-role}
-use Rattle.relay_word.proofs.SoundLemmas.{IsRight, Saids, said_at}
-use Rattle.relay_word.proofs.StrangeLemmas.{all-numbered, behind-before, strange}
-use Rattle.relay_word.proofs.TrimLemmas.{IsNoConsume, MayTrim, acknowledged-few}
-use Rattle.relay_word.proofs.WorldLemmas.{Befalls, Laws, Sound, fronts, known-at, moves-sound}
-use Rattle.relay_word.proofs.WorldLemmas.{rears, says-at, wholes}
+use Rattle.rm_relay.specs.Word.Ends.{acknowledged, first_incoming, first_outgoing, next_item}
+use Rattle.rm_relay.specs.Word.Roles.{before, behind}
+use Rattle.rm_relay.specs.Word.Word.{AreThree}
+use Rattle.rm_relay.specs.Word.World.{Event, Packet, World, address_of, arrives, asker, forwards, happens, moves}
+use Rattle.rm_relay.specs.Word.World.{moves_two}
+use Rattle.rm_relay.specs.Word.World.{run, sends_on, start, trims, wish_of}
+use Rattle.rm_relay.specs.Word.World.{Create, Send, Forward, Trim, Tick, Deliver, Close, End, Compact, Arm, Crash}
+use Rattle.rm_relay.specs.declared.word.station.Station.{Station}
+use Rattle.rm_relay.specs.declared.word.station.Station.TheVariants.{One, Two, Three}
+use Rattle.rm_relay.specs.Word.FirstLemmas.{tested}
+use Rattle.rm_relay.proofs.WordLemmas.ForwardLemmas.{IsNoAccept, MayRelay}
+use Rattle.rm_relay.proofs.WordLemmas.ReleasedLemmas.{item-there}
+use Rattle.rm_relay.proofs.WordLemmas.RoleLemmas.{RoleAct, all-weaker}
+use Rattle.rm_relay.proofs.WordLemmas.RoleLemmas.{batch-role, heard-roles, refused-role}
+use Rattle.rm_relay.proofs.WordLemmas.SoundLemmas.{IsRight, Saids, said_at}
+use Rattle.rm_relay.proofs.WordLemmas.StrangeLemmas.{all-numbered, behind-before, strange}
+use Rattle.rm_relay.proofs.WordLemmas.TrimLemmas.{IsNoConsume, MayTrim, acknowledged-few}
+use Rattle.rm_relay.proofs.WordLemmas.WorldLemmas.{Befalls, Laws, Sound, fronts, known-at, moves-sound}
+use Rattle.rm_relay.proofs.WordLemmas.WorldLemmas.{rears, says-at, wholes}
 
 -- ---- which batches accept nothing
 

@@ -1,6 +1,6 @@
 //! Laws of a relay.
-ghost use Rattle.relay_word.specs.Roles.{IsStrangeToTheOthers};
-ghost use Rattle.relay_word.specs.Word.{EachRelayKeepsItsWord};
+ghost use Rattle.rm_relay.specs.Word.Roles.{IsStrangeToTheOthers};
+ghost use Rattle.rm_relay.specs.Word.Word.{EachRelayKeepsItsWord};
 
 use ack_ranges::ends_are_right;
 use record_snapshot::laws::sets_unite;

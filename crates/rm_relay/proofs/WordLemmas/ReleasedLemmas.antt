@@ -28,7 +28,7 @@ use Rattle.record_snapshot.specs.Same.{AreNumbers, all_marked, gone_count}
 use Rattle.rm_protocol.specs.Pair.{HasNumber}
 use Rattle.rm_protocol.specs.Sound.{Keeps, NothingIsGone}
 use Rattle.rm_protocol.specs.Word.{Has}
-use Rattle.relay_word.specs.FirstLemmas.{numbered-at}
+use Rattle.rm_relay.specs.Word.FirstLemmas.{numbered-at}
 
 -- ---- what is known of all that a node ever had
 

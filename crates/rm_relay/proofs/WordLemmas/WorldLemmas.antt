@@ -17,17 +17,19 @@ use Rattle.record_snapshot.specs.Same.{IsLive, SetsUnite}
 use Rattle.rm_protocol.specs.Exact.{AckedWereAccepted}
 use Rattle.rm_protocol.specs.Sound.{NothingIsGone, Says}
 use Rattle.rm_protocol.specs.Terms.{AreTerms, Terms}
-use Rattle.relay_word.specs.Roles.{Known, before, behind}
-use Rattle.relay_word.specs.World.{number_of}
-use Rattle.relay_word.specs.World.{World, moves, node, packets_of}
-use Rattle.relay_word.specs.declared.station.Station.{Station}
-use Rattle.relay_word.specs.declared.station.Station.TheVariants.{One, Two, Three}
-use Rattle.relay_word.proofs.ForwardLemmas.{HasRelayed, MayRelay, relayed-add}
-use Rattle.relay_word.proofs.KnownLemmas.{Beside, known}
-use Rattle.relay_word.proofs.RoleLemmas.{JustGranted, RoleFact, RoleNow, all-behind, allowed-just, just-all, role-step}
-use Rattle.relay_word.proofs.SoundLemmas.{IsRight, Saids, all-puts, among-from, packets-right, right-grows, said_at}
-use Rattle.relay_word.proofs.SoundLemmas.{says_more}
-use Rattle.relay_word.proofs.TrimLemmas.{HasTrimmed, MayTrim, trimmed-add}
+use Rattle.rm_relay.specs.Word.Roles.{Known, before, behind}
+use Rattle.rm_relay.specs.Word.World.{number_of}
+use Rattle.rm_relay.specs.Word.World.{World, moves, node, packets_of}
+use Rattle.rm_relay.specs.declared.word.station.Station.{Station}
+use Rattle.rm_relay.specs.declared.word.station.Station.TheVariants.{One, Two, Three}
+use Rattle.rm_relay.proofs.WordLemmas.ForwardLemmas.{HasRelayed, MayRelay, relayed-add}
+use Rattle.rm_relay.proofs.WordLemmas.KnownLemmas.{Beside, known}
+use Rattle.rm_relay.proofs.WordLemmas.RoleLemmas.{JustGranted, RoleFact, RoleNow, all-behind, allowed-just, just-all}
+use Rattle.rm_relay.proofs.WordLemmas.RoleLemmas.{role-step}
+use Rattle.rm_relay.proofs.WordLemmas.SoundLemmas.{IsRight, Saids, all-puts, among-from, packets-right, right-grows}
+use Rattle.rm_relay.proofs.WordLemmas.SoundLemmas.{said_at}
+use Rattle.rm_relay.proofs.WordLemmas.SoundLemmas.{says_more}
+use Rattle.rm_relay.proofs.WordLemmas.TrimLemmas.{HasTrimmed, MayTrim, trimmed-add}
 
 -- the laws of two nodes
 pub record Laws : Type 0 where

@@ -11,12 +11,12 @@ use Rattle.sequence_table.specs.Makers.{Maker, Outgoing, Offered, Incoming, Take
 use Rattle.sequence_table.specs.Makers.{maker, makers, makers_of, number}
 use Rattle.rm_protocol.specs.Pair.{TellsOf}
 use Rattle.rm_protocol.specs.Sound.{IfWith, IsAgreed, IsAsked, IsIssuedBy, IsWith, Justified, asked_with}
-use Rattle.relay_word.specs.Roles.{HasRole, IsOfRole, Known, before, behind}
-use Rattle.relay_word.specs.World.{number_of}
-use Rattle.relay_word.specs.World.{address_of}
-use Rattle.relay_word.specs.declared.station.Station.{Station}
-use Rattle.relay_word.proofs.RoleLemmas.{all-behind}
-use Rattle.relay_word.proofs.StrangeLemmas.{role-of}
+use Rattle.rm_relay.specs.Word.Roles.{HasRole, IsOfRole, Known, before, behind}
+use Rattle.rm_relay.specs.Word.World.{number_of}
+use Rattle.rm_relay.specs.Word.World.{address_of}
+use Rattle.rm_relay.specs.declared.word.station.Station.{Station}
+use Rattle.rm_relay.proofs.WordLemmas.RoleLemmas.{all-behind}
+use Rattle.rm_relay.proofs.WordLemmas.StrangeLemmas.{role-of}
 
 -- a sequence with an identifier was asked for, where it is with the other node
 record IsSentOn (a b : List Fact) (s : ℕ) : Type 0 where

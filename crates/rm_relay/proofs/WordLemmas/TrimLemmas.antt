@@ -17,8 +17,8 @@ use Rattle.sequence_table.specs.Fits.{all_fit, is_incoming_side, is_outgoing_sid
 use Rattle.sequence_table.specs.GatherLemmas.{greatest_of-append}
 use Rattle.sequence_table.specs.Sources.{accepted, accepted_count, accepted_of, acked}
 use Rattle.rm_protocol.specs.Exact.{AckedWereAccepted}
-use Rattle.relay_word.specs.Ends.{acknowledged, first_incoming, first_outgoing}
-use Rattle.relay_word.proofs.ForwardLemmas.{first-add, same-some}
+use Rattle.rm_relay.specs.Word.Ends.{acknowledged, first_incoming, first_outgoing}
+use Rattle.rm_relay.proofs.WordLemmas.ForwardLemmas.{first-add, same-some}
 
 -- nothing is consumed with the record
 abbrev pub IsNoConsume : Fact → Type 0

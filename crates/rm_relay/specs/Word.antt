@@ -1,3 +1,4 @@
+-- The definitions of `word`.
 pub mod Ends
 pub mod Roles
 pub mod Word

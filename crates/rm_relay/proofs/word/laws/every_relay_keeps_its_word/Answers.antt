@@ -1,5 +1,5 @@
-use Rattle.relay_word.proofs.PromiseLemmas.{each-relay}
-use Rattle.relay_word.proofs.laws.every_relay_keeps_its_word.Goals as goal
+use Rattle.rm_relay.proofs.WordLemmas.PromiseLemmas.{each-relay}
+use Rattle.rm_relay.proofs.word.laws.every_relay_keeps_its_word.Goals as goal
 
 pub returns : goal.returns
 returns c = each-relay (record {

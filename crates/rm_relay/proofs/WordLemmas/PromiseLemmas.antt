@@ -19,19 +19,19 @@ use Rattle.rm_protocol.specs.Pair.{IsBetweenThem, MadeAreAPair}
 use Rattle.rm_protocol.specs.Sound.{IsIssuedBy, Keeps}
 use Rattle.rm_protocol.specs.Terms.{AreTerms, Terms}
 use Rattle.rm_protocol.specs.Word.{IsPrefixOf, Matches}
-use Rattle.relay_word.specs.Ends.{AreEnds, IsAhead, first_incoming, first_outgoing}
-use Rattle.relay_word.specs.Roles.{IsOfRole}
-use Rattle.relay_word.specs.Word.{EachRelayKeepsItsWord, KeepsAll, KeepsRelay, KeepsWord}
-use Rattle.relay_word.specs.World.{World, Crash, happens, number_of, run, start}
-use Rattle.relay_word.specs.declared.station.Station.TheVariants.{One, Two, Three}
-use Rattle.relay_word.specs.FirstLemmas.{tested}
-use Rattle.relay_word.proofs.ForwardLemmas.{prefix-then}
-use Rattle.relay_word.proofs.OrderLemmas.{ordered}
-use Rattle.relay_word.proofs.ReleasedLemmas.{has-released}
-use Rattle.relay_word.proofs.SoundLemmas.{Saids}
-use Rattle.relay_word.proofs.StepLemmas.{happens-sound, none-dropped, run-sound, start-sound}
-use Rattle.relay_word.proofs.StrangeLemmas.{role-of}
-use Rattle.relay_word.proofs.WorldLemmas.{Laws, Sound, fronts, rears}
+use Rattle.rm_relay.specs.Word.Ends.{AreEnds, IsAhead, first_incoming, first_outgoing}
+use Rattle.rm_relay.specs.Word.Roles.{IsOfRole}
+use Rattle.rm_relay.specs.Word.Word.{EachRelayKeepsItsWord, KeepsAll, KeepsRelay, KeepsWord}
+use Rattle.rm_relay.specs.Word.World.{World, Crash, happens, number_of, run, start}
+use Rattle.rm_relay.specs.declared.word.station.Station.TheVariants.{One, Two, Three}
+use Rattle.rm_relay.specs.Word.FirstLemmas.{tested}
+use Rattle.rm_relay.proofs.WordLemmas.ForwardLemmas.{prefix-then}
+use Rattle.rm_relay.proofs.WordLemmas.OrderLemmas.{ordered}
+use Rattle.rm_relay.proofs.WordLemmas.ReleasedLemmas.{has-released}
+use Rattle.rm_relay.proofs.WordLemmas.SoundLemmas.{Saids}
+use Rattle.rm_relay.proofs.WordLemmas.StepLemmas.{happens-sound, none-dropped, run-sound, start-sound}
+use Rattle.rm_relay.proofs.WordLemmas.StrangeLemmas.{role-of}
+use Rattle.rm_relay.proofs.WordLemmas.WorldLemmas.{Laws, Sound, fronts, rears}
 
 same-seq : (o : Option ℕ) (x y : ℕ) → o ≡ Some x → o ≡ Some y → x ≡ y
 same-seq o x y e f = cc

@@ -17,11 +17,11 @@ use Rattle.rm_protocol.specs.Pair.{AsksNone, IsForeignBlock, IsForeignCreate, Is
 use Rattle.rm_protocol.specs.Pair.{IsForeignResponse, IssuedByOne, ReceivesNone, TellsOf}
 use Rattle.rm_protocol.specs.Sound.{IsAsked, IsIssuedBy, IsWith, SaysBlock, SaysCreate, SaysData, SaysFinal}
 use Rattle.rm_protocol.specs.Sound.{SaysResponse, asked_with}
-use Rattle.relay_word.specs.Roles.{HasRole, IsOfRole, IsStrangeToTheOthers, Known, before, behind}
-use Rattle.relay_word.specs.World.{number_of}
-use Rattle.relay_word.specs.World.{address_of}
-use Rattle.relay_word.specs.declared.station.Station.{Station}
-use Rattle.relay_word.specs.declared.station.Station.TheVariants.{One, Two, Three}
+use Rattle.rm_relay.specs.Word.Roles.{HasRole, IsOfRole, IsStrangeToTheOthers, Known, before, behind}
+use Rattle.rm_relay.specs.Word.World.{number_of}
+use Rattle.rm_relay.specs.Word.World.{address_of}
+use Rattle.rm_relay.specs.declared.word.station.Station.{Station}
+use Rattle.rm_relay.specs.declared.word.station.Station.TheVariants.{One, Two, Three}
 
 -- ---- the nodes of the chain
 
