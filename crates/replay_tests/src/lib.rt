@@ -13,3 +13,7 @@ mod polls;
 mod stage;
 #[cfg(test)]
 mod strangers;
+
+pub mod command_tests;
+
+pub mod relay_tests;

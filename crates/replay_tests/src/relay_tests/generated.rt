@@ -8,7 +8,7 @@
 //! was the beginning of that. A test takes some two seconds, and minutes by `rt try`, which then wants `--seconds 600`.
 ghost use Rattle.std.specs.Prelude.{◌≤◌};
 
-use crate::stage::play;
+use crate::relay_tests::stage::play;
 use rand_core::utils::NextWord;
 use rand_pcg::Lcg64Xsh32;
 use rm_base::{Blob, Memory, push_decimal, push_hex};

@@ -1,6 +1,6 @@
 //! A crash inside `forward`. The run without one is that of the program `wsrm_relay`.
 
-use crate::stage::play;
+use crate::relay_tests::stage::play;
 use std::test::Fail;
 
 // Node 2's disk fails at the last device call of `forward`, and the crash keeps what was written.

@@ -1,7 +1,7 @@
 //! `forward` and `trim` over a node, for a caller that plays no script: with memory in plenty each does what it is for.
 //! Node 2 is found anew on its disk before each call.
 
-use crate::stage::events_of;
+use crate::relay_tests::stage::events_of;
 use rm_disk::MemDisk;
 use rm_network::MemWire;
 use rm_node::{Node, NodeError, Out};
