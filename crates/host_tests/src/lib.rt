@@ -13,3 +13,14 @@ mod importing;
 mod machine;
 #[cfg(test)]
 mod serving;
+
+#[cfg(test)]
+mod peer;
+#[cfg(test)]
+mod posts;
+#[cfg(test)]
+mod refusals;
+#[cfg(test)]
+mod serves;
+#[cfg(test)]
+mod watched;
