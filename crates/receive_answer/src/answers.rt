@@ -24,7 +24,7 @@ use node_laws::laws::{own_terms_are_terms, there_are_own_terms};
 use node_tables::Tables;
 use receive_records::put_rows;
 use receive_replies::said;
-use receive_verdict::{early_verdict, target};
+use receive_replies::verdict::{early_verdict, target};
 use rm_base::{Behaviour, Memory};
 use rm_message::{Message, Refusal};
 use rm_protocol::laws::each_record_may_come_next;

@@ -17,7 +17,7 @@ use call_answers::{Answer, Outcome, no_moves};
 use message_writer::fault_message;
 use node_messages::fault_endpoint;
 use receive_replies::fault_block;
-use receive_verdict::target;
+use receive_replies::verdict::target;
 use rm_base::{Ident, Memory, copy_optional_uri};
 use rm_elements::AckBlock;
 use rm_message::{FaultKind, Message, Names, Refusal};

@@ -11,7 +11,7 @@ ghost use Rattle.rm_protocol.specs.Messages.{block_of as block_for};
 ghost use Rattle.tables_ahead.specs.Known.{all_records};
 
 use node_messages::ack_block;
-use receive_verdict::is_invalid;
+use crate::verdict::is_invalid;
 use rm_base::{Ident, Memory};
 use rm_elements::{AckBlock, SeqHeader, copy_block};
 use rm_message::{FaultKind, Message};

@@ -12,3 +12,5 @@ pub use acks::acks_to;
 pub use block::{block_of, fault_block};
 pub use reply::said;
 pub use responses::home;
+
+pub mod verdict;

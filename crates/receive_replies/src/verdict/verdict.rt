@@ -14,9 +14,9 @@ ghost use Rattle.rm_protocol.specs.Verdict.{
 };
 ghost use Rattle.tables_ahead.specs.Known.{all_records};
 
-use crate::acks::{has_invalid, names_none};
-use crate::body::{is_fault_body, lacks_selection, refuses_create, selects_other};
-use crate::sequence::{is_ended_for, is_shut_for, is_unknown, lacks_header};
+use crate::verdict::acks::{has_invalid, names_none};
+use crate::verdict::body::{is_fault_body, lacks_selection, refuses_create, selects_other};
+use crate::verdict::sequence::{is_ended_for, is_shut_for, is_unknown, lacks_header};
 use rm_message::{FaultKind, Message};
 use tables_ahead::Known;
 
