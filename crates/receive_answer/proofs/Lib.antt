@@ -2,3 +2,4 @@ pub mod FitLemmas
 pub mod ReceiveLemmas
 pub mod RecordLemmas
 pub mod StrippedLemmas
+pub mod RecordsLemmas

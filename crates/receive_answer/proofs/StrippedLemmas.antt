@@ -12,7 +12,7 @@ use Rattle.sequence_table.specs.Words.{Text}
 use Rattle.rm_protocol.specs.Calls.{Answer, Done, refusal_of}
 use Rattle.rm_protocol.specs.Said.{acks_said, answered, ask_acks, data_acks, data_ident, found_in, given_with}
 use Rattle.rm_protocol.specs.Said.{responses, said}
-use Rattle.receive_records.specs.Stripped.{emptied, stripped}
+use Rattle.receive_answer.specs.Records.Stripped.{emptied, stripped}
 use Rattle.receive_answer.specs.Untold.{done_of, full_of, judged_as, urging}
 
 responses-emptied : (r : List Fact) (now : ℕ) (a : Addressing) (content : Body)

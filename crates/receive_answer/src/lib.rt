@@ -1,5 +1,5 @@
 //! What a message that comes to a node comes to: a fault, or its records and what is said then. It puts together why a
-//! message is not taken, `receive_replies::verdict`, the records that it adds, `receive_records`, and what is said,
+//! message is not taken, `receive_replies::verdict`, the records that it adds, `records`, and what is said,
 //! `receive_replies`.
 #![tactic(auto)]
 
@@ -8,3 +8,5 @@ mod fault;
 mod nacked;
 
 pub use answers::{receive, refuse};
+
+pub mod records;

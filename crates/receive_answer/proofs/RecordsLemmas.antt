@@ -1,0 +1,3 @@
+-- The lemmas of `records`.
+pub mod AckLemmas
+pub mod OfferLemmas

@@ -1,0 +1,3 @@
+-- The definitions of `records`.
+pub mod Stripped
+pub mod WithRow

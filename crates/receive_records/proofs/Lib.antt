@@ -1,2 +1,0 @@
-mod AckLemmas
-mod OfferLemmas

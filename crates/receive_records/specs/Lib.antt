@@ -1,2 +1,0 @@
-pub mod Stripped
-pub mod WithRow
