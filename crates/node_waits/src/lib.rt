@@ -10,3 +10,5 @@ mod room;
 
 pub use fetch::{Fetched, Polled, polls, selected, take};
 pub use room::{Held, keep, make_room, to_wait};
+
+pub mod keys;

@@ -13,9 +13,9 @@ use Rattle.key_timers.specs.Keyed.{Keyed, Once, Rises, StandsFor, Steps as Moves
 use Rattle.key_timers.specs.Keyed.{wait_of}
 use Rattle.key_timers.specs.KeyLemmas.{before-apart, same_key-is, same_key-refl}
 use Rattle.key_timers.specs.Waits.{Wait, begin_all, fresh, has_key, keys_of, same_key, send_all, urge_all}
-use Rattle.node_timers.specs.Settled.{AreTouched, OneMoreHasRoom, OnlyTheTouched, cells_all, changed, is_kept}
-use Rattle.node_timers.specs.Settled.{settled_all, settled_cells, touched_by}
-use Rattle.node_timers.specs.declared.touched.Touched.{Touched}
+use Rattle.node_waits.specs.Keys.Settled.{AreTouched, OneMoreHasRoom, OnlyTheTouched, cells_all, changed, is_kept}
+use Rattle.node_waits.specs.Keys.Settled.{settled_all, settled_cells, touched_by}
+use Rattle.node_waits.specs.declared.keys.touched.Touched.{Touched}
 use Rattle.node_laws.specs.Records.{HasRoomForKeys, IsKept}
 use Rattle.rm_protocol.specs.Exact.{AreExactly, IsExactAtFirst, StaysExact}
 use Rattle.rm_protocol.specs.Calls.{Answer}

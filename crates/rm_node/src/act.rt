@@ -17,7 +17,7 @@ use call_answers::Outcome;
 use node_laws::laws::a_node_has_room_for_its_keys;
 use node_store::laws::a_node_has_one_batch_more;
 use node_tables::Tables;
-use node_timers::laws::{one_more_has_room, only_the_touched_are_looked_at};
+use node_waits::keys::laws::{one_more_has_room, only_the_touched_are_looked_at};
 use rm_disk::Disk;
 use rm_protocol::laws::what_waits_stays_exact;
 use rm_timers::Key;

@@ -27,7 +27,7 @@ use crate::kept::Kept;
 use node_laws::laws::a_node_has_room_for_its_keys;
 use node_store::{ImportError, MountError, Store, StoreError};
 use node_tables::Tables;
-use node_timers::fill;
+use node_waits::keys::fill;
 use rm_base::{Behaviour, Uri};
 use rm_disk::Disk;
 use rm_protocol::laws::what_waits_stays_exact;

@@ -3,12 +3,12 @@ ghost use Rattle.std.specs.Prelude.{◌≡◌, ◌<◌, ◌≤◌, length, max, 
 ghost use Rattle.rm_base.specs.Limits.{most_keys, now_max};
 ghost use Rattle.call_answers.specs.Answers.{moves_seen};
 ghost use Rattle.key_timers.specs.Keyed.{Rises, Steps, slot_at};
-ghost use Rattle.node_timers.specs.Settled.{cells_all, changed};
+ghost use Rattle.node_waits.specs.Keys.Settled.{cells_all, changed};
 
 use call_answers::Moves;
 use key_timers::KeyTimers;
 use node_tables::Tables;
-use node_timers::{Touched, after_call};
+use node_waits::keys::{Touched, after_call};
 use rm_timers::Key;
 
 /// The time is at least what an answer tells, and the keys move, once its records, which may end these keys, are in the

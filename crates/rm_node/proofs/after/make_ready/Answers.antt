@@ -1,7 +1,7 @@
 use Rattle.std.proofs.Common.{◌∙◌, map, ap}
 use Rattle.record_batch.specs.Fact.{fact_of}
 use Rattle.std.specs.List.{flat_map}
-use Rattle.node_timers.specs.Settled.{touched_by}
+use Rattle.node_waits.specs.Keys.Settled.{touched_by}
 use Rattle.rm_protocol.specs.Polls.{waiting_of}
 use Rattle.node_waits.specs.Held.{addresses_of}
 use Rattle.rm_node.proofs.after.make_ready.Goals as goal

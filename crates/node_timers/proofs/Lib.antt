@@ -1,7 +1,0 @@
-mod AckedLemmas
-mod MoveLemmas
-mod SettleLemmas
-mod FillLemmas
-mod GoneLemmas
-mod AfterLemmas
-mod RoomLemmas

@@ -1,5 +1,0 @@
-use Rattle.node_timers.proofs.RoomLemmas.{one-more}
-use Rattle.node_timers.proofs.laws.one_more_has_room.Goals as goal
-
-pub returns : goal.returns
-returns c cells keys key o h n k = one-more cells keys key o h n k

@@ -1,0 +1,3 @@
+-- The definitions of `keys`.
+pub mod Settled
+pub mod Filled
