@@ -1,7 +1,7 @@
 //! What the rows of a table need: the parts of records, and the bytes of a batch both ways.
 use ack_ranges::RangeSet;
-use batch_size::batch_len;
-use batch_size::laws::a_batch_that_fits_is_short;
+use node_laws::sizes::batch_len;
+use node_laws::sizes::laws::a_batch_that_fits_is_short;
 use record_batch::{BatchError, Record, read_batch, write_batch};
 use rm_base::{Blob, Ident, Items, Lapse, Payload, Uri};
 use soap_profile::Elements;

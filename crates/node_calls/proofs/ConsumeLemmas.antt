@@ -3,7 +3,7 @@ use Rattle.std.proofs.Common.{◌≡◌, ℕ, ◌<◌, ◌≤◌, Bool, true, fa
 use Rattle.std.proofs.Common.{◌∙◌, arith, Option, Some, None}
 use Rattle.std.specs.Prelude.{nat_lt}
 use Rattle.std.proofs.lemmas.Bool.Decides.{nat_tests}
-use Rattle.batch_size.specs.Size.{batch_size}
+use Rattle.node_laws.specs.Sizes.Size.{batch_size}
 use Rattle.record_batch.specs.Batch.{batch_text}
 use Rattle.record_batch.specs.Fact.{Fact, Consumed}
 use Rattle.rm_destination.specs.Incoming.{Receiving}

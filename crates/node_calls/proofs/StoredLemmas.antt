@@ -3,13 +3,13 @@ use Rattle.std.proofs.Common.{◌≡◌, ℕ, true, List, [], map, refl, sym, ap
 use Rattle.std.specs.Prelude.{Result, Ok, Err, IfOk}
 use Rattle.std.specs.List.{AllByRecursion}
 use Rattle.rm_base.specs.declared.failures.Memory.{Memory}
-use Rattle.batch_size.specs.Room.{HasRoom}
-use Rattle.batch_size.specs.Typed.{IsTyped}
+use Rattle.node_laws.specs.Sizes.Room.{HasRoom}
+use Rattle.node_laws.specs.Sizes.Typed.{IsTyped}
 use Rattle.record_batch.specs.Fact.{Fact, fact_of}
 use Rattle.rm_protocol.specs.Calls.{Answer}
 use Rattle.sequence_table.specs.Fits.{all_fit}
-use Rattle.call_answers.specs.Answers.{MayBeStored, seen}
-use Rattle.call_answers.specs.declared.answer.Answer.{Answer as Given}
+use Rattle.node_laws.specs.Answers.Answers.{MayBeStored, seen}
+use Rattle.node_laws.specs.declared.answers.answer.Answer.{Answer as Given}
 
 pub stored : (r : List Fact) (place : ℕ) (result : Result Given Memory) (answer : Answer)
     → all_fit r answer.delta ≡ true → IfOk result (λ a. seen a ≡ answer)

@@ -1,10 +1,10 @@
 //! Answers put together.
 ghost use Rattle.std.specs.Prelude.{◌≡◌, IfOk};
 ghost use Rattle.std.specs.Option.{option_to_list};
-ghost use Rattle.call_answers.specs.Answers.{seen};
+ghost use Rattle.node_laws.specs.Answers.Answers.{seen};
 ghost use Rattle.node_calls.specs.Comes.{done};
 
-use call_answers::{Answer, Outcome, no_moves};
+use node_laws::answers::{Answer, Outcome, no_moves};
 use rm_base::Memory;
 use rm_message::Message;
 use std::alloc::Global;

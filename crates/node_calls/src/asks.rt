@@ -4,13 +4,13 @@ ghost use Rattle.std.specs.Option.{option_to_list};
 ghost use Rattle.rm_protocol.specs.Calls.{ask_ack as ask_ack_of, ask_out as ask_out_of, ask_to};
 ghost use Rattle.sequence_table.specs.Find.{peer as peer_in};
 ghost use Rattle.sequence_table.specs.Sources.{out_ident};
-ghost use Rattle.call_answers.specs.Answers.{seen};
+ghost use Rattle.node_laws.specs.Answers.Answers.{seen};
 ghost use Rattle.tables_ahead.specs.Known.{all_records};
 
 use crate::answers::added;
 use crate::reads::{may_end, phase, side_refusal};
 use crate::requests::peer;
-use call_answers::{Answer, Cause, refused};
+use node_laws::answers::{Answer, Cause, refused};
 use node_messages::ask_message;
 use node_tables::Tables;
 use rm_base::Memory;

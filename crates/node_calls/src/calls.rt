@@ -14,12 +14,12 @@ ghost use Rattle.rm_protocol.specs.Calls.{
 ghost use Rattle.rm_protocol.specs.Polls.{poll as poll_of};
 ghost use Rattle.rm_protocol.specs.Terms.{Terms};
 ghost use Rattle.node_laws.specs.OwnTerms.{AreOwn};
-ghost use Rattle.call_answers.specs.Answers.{MayBeStored, seen, wish_seen};
-ghost use Rattle.call_answers.specs.Serving.{Serves};
+ghost use Rattle.node_laws.specs.Answers.Answers.{MayBeStored, seen, wish_seen};
+ghost use Rattle.node_laws.specs.Answers.Serving.{Serves};
 ghost use Rattle.node_calls.specs.Records.{CallsFit, IsServing};
 
 use crate::{asks, consumes, ends, nacks, polls, requests, sends, ticks};
-use call_answers::{Answer, Wish};
+use node_laws::answers::{Answer, Wish};
 use node_laws::laws::{own_terms_are_terms, there_are_own_terms};
 use node_tables::Tables;
 use rm_base::{Blob, Memory, Uri};

@@ -2,8 +2,8 @@
 ghost use Rattle.std.specs.Prelude.{◌≡◌, map, nat_lt, true, IfOk};
 ghost use Rattle.std.specs.List.{AllByRecursion};
 ghost use Rattle.std.specs.Option.{option_map};
-ghost use Rattle.batch_size.specs.Room.{HasRoom};
-ghost use Rattle.batch_size.specs.Typed.{IsTyped};
+ghost use Rattle.node_laws.specs.Sizes.Room.{HasRoom};
+ghost use Rattle.node_laws.specs.Sizes.Typed.{IsTyped};
 ghost use Rattle.record_batch.specs.Fact.{fact_of};
 ghost use Rattle.rm_protocol.specs.Calls.{consume as consume_of, consume_in as consume_in_of};
 ghost use Rattle.rm_protocol.specs.Terms.{Terms};
@@ -11,13 +11,13 @@ ghost use Rattle.sequence_table.specs.Destinations.{cursor};
 ghost use Rattle.sequence_table.specs.Fits.{is_incoming_side};
 ghost use Rattle.sequence_table.specs.Makers.{maker};
 ghost use Rattle.node_laws.specs.OwnTerms.{AreOwn};
-ghost use Rattle.call_answers.specs.Answers.{cause_seen, seen};
+ghost use Rattle.node_laws.specs.Answers.Answers.{cause_seen, seen};
 ghost use Rattle.node_calls.specs.Causes.{inbox_cause};
 ghost use Rattle.node_calls.specs.Comes.{consumed as consumed_of};
 
 use crate::answers::added;
-use batch_size::laws::a_batch_is_its_parts;
-use call_answers::{Answer, Cause, if_room, refused};
+use node_laws::sizes::laws::a_batch_is_its_parts;
+use node_laws::answers::{Answer, Cause, if_room, refused};
 use node_tables::laws::an_incoming_sequence_is_as_recorded;
 use node_tables::{Maker, Tables};
 use record_batch::Record;

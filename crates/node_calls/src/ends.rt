@@ -2,8 +2,8 @@
 ghost use Rattle.std.specs.Prelude.{◌≡◌, map, true, IfOk};
 ghost use Rattle.std.specs.List.{AllByRecursion};
 ghost use Rattle.rm_base.specs.declared.message.Cause.TheVariants.{Operator};
-ghost use Rattle.batch_size.specs.Room.{HasRoom};
-ghost use Rattle.batch_size.specs.Typed.{IsTyped};
+ghost use Rattle.node_laws.specs.Sizes.Room.{HasRoom};
+ghost use Rattle.node_laws.specs.Sizes.Typed.{IsTyped};
 ghost use Rattle.record_batch.specs.Fact.{Closed, fact_of};
 ghost use Rattle.rm_protocol.specs.Calls.{
   close as close_of,
@@ -15,7 +15,7 @@ ghost use Rattle.rm_protocol.specs.Terms.{Terms};
 ghost use Rattle.sequence_table.specs.Fits.{fits, is_incoming_side};
 ghost use Rattle.sequence_table.specs.Makers.{maker};
 ghost use Rattle.node_laws.specs.OwnTerms.{AreOwn};
-ghost use Rattle.call_answers.specs.Answers.{seen};
+ghost use Rattle.node_laws.specs.Answers.Answers.{seen};
 ghost use Rattle.node_calls.specs.Comes.{closed as closed_of, closing as closing_of, ending as ending_of};
 ghost use Rattle.node_calls.specs.Records.{IsServing};
 
@@ -23,8 +23,8 @@ use crate::acks::final_ack;
 use crate::answers::added;
 use crate::reads::{is_open, is_over, may_end, phase, side_refusal};
 use crate::requests::{close_request, terminate_request};
-use batch_size::laws::a_batch_is_its_parts;
-use call_answers::{Answer, Cause, if_room, refused};
+use node_laws::sizes::laws::a_batch_is_its_parts;
+use node_laws::answers::{Answer, Cause, if_room, refused};
 use node_tables::{Maker, Tables};
 use record_batch::Record;
 use rm_base::Memory;

@@ -10,14 +10,14 @@ ghost use Rattle.rm_protocol.specs.Calls.{
 };
 ghost use Rattle.sequence_table.specs.Fits.{is_incoming_side};
 ghost use Rattle.sequence_table.specs.Makers.{maker};
-ghost use Rattle.call_answers.specs.Answers.{seen};
+ghost use Rattle.node_laws.specs.Answers.Answers.{seen};
 ghost use Rattle.node_calls.specs.Records.{IsServing};
 ghost use Rattle.tables_ahead.specs.Known.{all_records};
 
 use crate::acks::{counter_of, own_ack};
 use crate::answers::added;
 use crate::reads::is_over;
-use call_answers::{Answer, Cause, refused};
+use node_laws::answers::{Answer, Cause, refused};
 use node_tables::laws::an_incoming_sequence_is_as_recorded;
 use node_tables::{Maker, Tables};
 use rm_base::{Memory, Numbers};

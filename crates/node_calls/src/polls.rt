@@ -1,11 +1,11 @@
 //! A request of the node's own for the messages that wait for it: WS-MakeConnection 1.1, section 3.2.
 ghost use Rattle.std.specs.Prelude.{◌≡◌, IfOk};
 ghost use Rattle.rm_protocol.specs.Polls.{poll as poll_of};
-ghost use Rattle.call_answers.specs.Answers.{seen};
+ghost use Rattle.node_laws.specs.Answers.Answers.{seen};
 ghost use Rattle.node_calls.specs.Records.{IsServing};
 
 use crate::answers::added;
-use call_answers::Answer;
+use node_laws::answers::Answer;
 use node_messages::make_request;
 use node_tables::Tables;
 use receive_replies::home;

@@ -5,10 +5,10 @@ ghost use Rattle.rm_protocol.specs.Calls.{is_open as is_open_in, may_end as may_
 ghost use Rattle.sequence_table.specs.Destinations.{is_over};
 ghost use Rattle.sequence_table.specs.Makers.{maker};
 ghost use Rattle.sequence_table.specs.Sources.{phase};
-ghost use Rattle.call_answers.specs.Answers.{cause_seen};
+ghost use Rattle.node_laws.specs.Answers.Answers.{cause_seen};
 ghost use Rattle.node_calls.specs.Causes.{side_cause};
 
-use call_answers::Cause;
+use node_laws::answers::Cause;
 use node_tables::{Maker, Tables};
 use rm_source::OutPhase;
 use std::alloc::Global;

@@ -2,8 +2,8 @@
 ghost use Rattle.std.specs.Prelude.{◌≡◌, ◌+◌, ◌^◌, ◌<◌, ◌≤◌, ◌++◌, ◌∷◌, [], codes, length, map, IfOk};
 ghost use Rattle.std.specs.List.{AllByRecursion};
 ghost use Rattle.rm_base.specs.Limits.{most_sequences};
-ghost use Rattle.batch_size.specs.Room.{HasRoom};
-ghost use Rattle.batch_size.specs.Typed.{IsTyped};
+ghost use Rattle.node_laws.specs.Sizes.Room.{HasRoom};
+ghost use Rattle.node_laws.specs.Sizes.Typed.{IsTyped};
 ghost use Rattle.record_batch.specs.Fact.{fact_of};
 ghost use Rattle.rm_elements.specs.declared.lifecycle.Lifecycle.TheVariants as life;
 ghost use Rattle.rm_protocol.specs.Calls.{create as create_of, offer_of, wanted as wanted_of};
@@ -14,14 +14,14 @@ ghost use Rattle.sequence_table.specs.Makers.{maker, makers, number};
 ghost use Rattle.sequence_table.specs.Sources.{out_ident, tickets};
 ghost use Rattle.sequence_table.specs.Words.{last_or};
 ghost use Rattle.node_laws.specs.OwnTerms.{AreOwn};
-ghost use Rattle.call_answers.specs.Answers.{seen, wish_seen};
+ghost use Rattle.node_laws.specs.Answers.Answers.{seen, wish_seen};
 ghost use Rattle.node_calls.specs.Comes.{asked as asked_of};
 ghost use Rattle.node_calls.specs.Records.{IsServing};
 ghost use Rattle.tables_ahead.specs.Known.{all_records};
 
 use crate::answers::added;
-use batch_size::laws::a_batch_is_its_parts;
-use call_answers::{Answer, Cause, Wish, if_room, refused};
+use node_laws::sizes::laws::a_batch_is_its_parts;
+use node_laws::answers::{Answer, Cause, Wish, if_room, refused};
 use node_messages::{create_request, plain_endpoint};
 use node_tables::{Maker, Tables};
 use receive_replies::home;

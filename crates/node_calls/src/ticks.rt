@@ -1,8 +1,8 @@
 //! A tick: incoming sequences whose time has run out, WS-ReliableMessaging 1.2, section 3.4, and keys that are emitted.
 ghost use Rattle.std.specs.Prelude.{◌≡◌, ◌&&◌, ◌++◌, [], map, not, IfOk, OnOk};
 ghost use Rattle.std.specs.List.{AllByRecursion};
-ghost use Rattle.batch_size.specs.Room.{HasRoom};
-ghost use Rattle.batch_size.specs.Typed.{IsTyped};
+ghost use Rattle.node_laws.specs.Sizes.Room.{HasRoom};
+ghost use Rattle.node_laws.specs.Sizes.Typed.{IsTyped};
 ghost use Rattle.record_batch.specs.Fact.{fact_of};
 ghost use Rattle.rm_protocol.specs.Calls.{expired_from, tick_with};
 ghost use Rattle.rm_protocol.specs.Terms.{Terms};
@@ -10,12 +10,12 @@ ghost use Rattle.rm_destination.specs.Incoming.{is_past as is_past_at};
 ghost use Rattle.sequence_table.specs.Destinations.{deadline_of, has_end};
 ghost use Rattle.sequence_table.specs.Makers.{maker, makers};
 ghost use Rattle.node_laws.specs.OwnTerms.{AreOwn};
-ghost use Rattle.call_answers.specs.Answers.{seen};
+ghost use Rattle.node_laws.specs.Answers.Answers.{seen};
 ghost use Rattle.node_calls.specs.Comes.{ending_if, fitting as fitting_of};
 ghost use Rattle.node_calls.specs.Records.{IsEnding, IsServing};
 
 use crate::keys::messages_at;
-use call_answers::{Answer, Moves, Outcome, has_room};
+use node_laws::answers::{Answer, Moves, Outcome, has_room};
 use node_tables::Tables;
 use record_batch::Record;
 use rm_base::{Cause, Memory};

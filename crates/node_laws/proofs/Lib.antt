@@ -15,3 +15,5 @@ mod Rows
 mod Said
 mod Unacked
 mod Values
+pub mod SnapshotsLemmas
+pub mod SizesLemmas

@@ -3,3 +3,9 @@
 #![tactic(auto)]
 
 pub mod laws;
+
+pub mod snapshots;
+
+pub mod answers;
+
+pub mod sizes;

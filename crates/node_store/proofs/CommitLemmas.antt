@@ -6,8 +6,8 @@ use Rattle.std.specs.Prelude.{is_ok, Result, Err}
 use Rattle.std.specs.List.{flat_map}
 use Rattle.std.proofs.lemmas.Grind.{flat_map-append}
 use Rattle.std.proofs.lemmas.List.{get_or-append_right}
-use Rattle.batch_size.specs.Room.{HasRoom}
-use Rattle.batch_size.specs.Size.{batch_size}
+use Rattle.node_laws.specs.Sizes.Room.{HasRoom}
+use Rattle.node_laws.specs.Sizes.Size.{batch_size}
 use Rattle.rm_base.specs.Text.{IsText}
 use Rattle.record_batch.specs.Batch.{batch_text}
 use Rattle.record_batch.specs.Fact.{Fact, Made}

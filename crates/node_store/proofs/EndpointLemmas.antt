@@ -15,7 +15,7 @@ use Rattle.soap_writer.specs.ElementText.{element_text}
 use Rattle.soap_writer.specs.Writable.{IsWritable}
 use Rattle.soap_stripped.specs.Resolved.{IsResolved}
 use Rattle.record_batch.specs.Writable.{IsEndpointWritable, IsParamWritable as IsParamRead}
-use Rattle.batch_size.specs.Size.{capped, param_size}
+use Rattle.node_laws.specs.Sizes.Size.{capped, param_size}
 use Rattle.wsa_headers.specs.Endpoint.{mark_name, params_length}
 use Rattle.wsa_headers.specs.Writable.{IsEprWritable, IsParamWritable}
 use Rattle.wsa_headers.specs.declared.endpoint.Epr.{Epr}

@@ -5,7 +5,7 @@ use Rattle.std.proofs.Common.{length-append, true, ◌==◌}
 use Rattle.std.specs.Prelude.{nat_le}
 use Rattle.std.specs.List.{AllByRecursion, flat_map}
 use Rattle.std.proofs.lemmas.Bool.{and_parts, leb-true}
-use Rattle.batch_size.specs.Typed.{AreKept, IsTyped}
+use Rattle.node_laws.specs.Sizes.Typed.{AreKept, IsTyped}
 use Rattle.record_batch.specs.Batch.{batch_text}
 use Rattle.record_batch.specs.Fact.{Fact, Made, Creating, Created, Granted, Accepted, Acked, Received, Closing}
 use Rattle.record_batch.specs.Fact.{ClosedOut, Closed, Ending, EndedOut, Ended, Failed, Consumed, Dropped, Purged}
@@ -27,7 +27,7 @@ use Rattle.sequence_table.specs.Fits.{all_fit, fits, follows_at}
 use Rattle.sequence_table.specs.Sources.{accepted_count}
 use Rattle.node_laws.specs.OwnTerms.{AreOwn}
 use Rattle.node_laws.specs.Records.{AreValues, HasValues, IsKept}
-use Rattle.snapshot_laws.specs.Kept.{SnapshotIsKept}
+use Rattle.node_laws.specs.Snapshots.Kept.{SnapshotIsKept}
 use Rattle.node_store.specs.Has.{AreOfNode, entries_of, Has, Holds}
 use Rattle.node_store.specs.Rewrites.{fit_as_entries, fresh_batches, fresh_entries, fresh_size, IsRewrittenAs}
 use Rattle.node_store.specs.Rewrites.{rewrite_refusal}

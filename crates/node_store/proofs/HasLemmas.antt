@@ -4,8 +4,8 @@ use Rattle.std.proofs.Common.{Some, None, refl, sym, ap, subst, ◌∙◌, arith
 use Rattle.std.specs.List.{AllByRecursion, flat_map}
 use Rattle.std.proofs.lemmas.Grind.{flat_map-append}
 use Rattle.std.proofs.lemmas.List.{append-nil, map-append}
-use Rattle.batch_size.specs.Room.{HasRoom}
-use Rattle.batch_size.specs.Typed.{AreKept, IsTyped}
+use Rattle.node_laws.specs.Sizes.Room.{HasRoom}
+use Rattle.node_laws.specs.Sizes.Typed.{AreKept, IsTyped}
 use Rattle.record_batch.specs.Batch.{batch_at, batch_text}
 use Rattle.record_batch.specs.Fact.{Fact, Made, Creating, Created, Granted, Accepted, Acked, Received, Closing}
 use Rattle.record_batch.specs.Fact.{ClosedOut, Closed, Ending, EndedOut, Ended, Failed, Consumed, Dropped, Purged}

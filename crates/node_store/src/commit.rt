@@ -1,7 +1,7 @@
 //! Records are written, all or none: the function that carries each promise of what a crash leaves.
 ghost use Rattle.std.specs.Prelude.{◌≡◌, ◌≢◌, ◌⊎◌, [], ◌∷◌, List, true, false, map, IsTrue, is_ok, IfOk, IfErr};
 ghost use Rattle.std.specs.List.{list_all};
-ghost use Rattle.batch_size.specs.Room.{IsWithin};
+ghost use Rattle.node_laws.specs.Sizes.Room.{IsWithin};
 ghost use Rattle.record_batch.specs.Fact.{Fact, Made, fact_of};
 ghost use Rattle.rm_base.specs.Text.{IsText};
 ghost use Rattle.rm_disk.specs.Cause.{HasCause};
@@ -15,7 +15,7 @@ ghost use Rattle.node_store.specs.Stored.{stored, stored_after};
 ghost use Rattle.node_store.specs.declared.error.StoreError.TheVariants.{Memory as WantsMemory, Disk as DiskFails};
 
 use crate::error::StoreError;
-use batch_size::laws::a_batch_that_fits_is_short;
+use node_laws::sizes::laws::a_batch_that_fits_is_short;
 use node_tables::{TableError, Tables};
 use record_batch::{Record, write_batch};
 use rm_base::{Memory, Uri};

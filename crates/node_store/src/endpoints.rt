@@ -10,7 +10,7 @@ ghost use Rattle.wsa_headers.specs.Endpoint.{mark_name, params_length};
 ghost use Rattle.wsa_headers.specs.Writable.{IsEprWritable};
 ghost use Rattle.node_store.specs.Endpoints.{is_plain, may_go};
 
-use batch_size::parts::{endpoint_len, uri_len};
+use node_laws::sizes::parts::{endpoint_len, uri_len};
 use rm_base::Memory;
 use rm_base::limits::{CONTENT_DEPTH, PARAMETER_BYTES};
 use soap_profile::{Element, Item, is_shallow};

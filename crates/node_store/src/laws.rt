@@ -1,8 +1,8 @@
 //! What follows of the batches that a disk and a node have.
 ghost use Rattle.std.specs.Prelude.{◌≡◌, ℕ, List, ◌++◌, None};
 ghost use Rattle.std.specs.List.{AllByRecursion};
-ghost use Rattle.batch_size.specs.Room.{HasRoom};
-ghost use Rattle.batch_size.specs.Typed.{IsTyped};
+ghost use Rattle.node_laws.specs.Sizes.Room.{HasRoom};
+ghost use Rattle.node_laws.specs.Sizes.Typed.{IsTyped};
 ghost use Rattle.record_batch.specs.Fact.{Fact};
 ghost use Rattle.record_batch.specs.Writable.{IsBatch};
 ghost use Rattle.rm_disk.specs.Call.{Call};
@@ -16,9 +16,9 @@ ghost use Rattle.node_store.specs.Has.{AreOfNode, Has, Holds, StandsForBatches, 
 ghost use Rattle.node_store.specs.Rewrites.{IsRewrittenAs, fresh_batches, rewrite_refusal};
 ghost use Rattle.node_store.specs.Stored.{Stored, with_batch};
 
-use batch_size::laws::a_batch_that_fits_is_read_back;
+use node_laws::sizes::laws::a_batch_that_fits_is_read_back;
 use record_batch::laws::what_is_written_is_read;
-use snapshot_laws::laws::a_snapshot_is_kept;
+use node_laws::snapshots::laws::a_snapshot_is_kept;
 
 /// Bytes stand for one list of batches, where each is read back from its text.
 pub fn bytes_stand_for_one_list_of_batches()

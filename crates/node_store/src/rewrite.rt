@@ -14,8 +14,8 @@ ghost use Rattle.node_store.specs.Stored.{stored};
 ghost use Rattle.node_store.specs.declared.error.RewriteError.TheVariants.{Disk as DiskFails};
 
 use crate::error::RewriteError;
-use batch_size::batch_len;
-use batch_size::laws::a_batch_that_fits_is_short;
+use node_laws::sizes::batch_len;
+use node_laws::sizes::laws::a_batch_that_fits_is_short;
 use node_tables::Tables;
 use record_batch::{Record, Records, write_batch};
 use rm_base::limits::ENTRY_BYTES;

@@ -1,7 +1,7 @@
 //! The journal of a node and the tables of its records.
 ghost use Rattle.std.specs.Prelude.{◌≡◌, ◌≢◌, ◌⊎◌, ◌<◌, ◌^◌, [], ◌∷◌, List, true, false, Err, length, map, IsTrue};
 ghost use Rattle.std.specs.Prelude.{◌+◌, ◌≤◌, ℕ, is_ok, IfOk, IfErr};
-ghost use Rattle.batch_size.specs.Room.{HasRoom};
+ghost use Rattle.node_laws.specs.Sizes.Room.{HasRoom};
 ghost use Rattle.record_batch.specs.Fact.{Fact, Made, fact_of};
 ghost use Rattle.rm_base.specs.Limits.{journal_bytes};
 ghost use Rattle.rm_disk.specs.Call.{crashes_of, seen_of};
@@ -31,7 +31,7 @@ use crate::format::format;
 use crate::import::import;
 use crate::mount::find;
 use crate::rewrite::rewrite;
-use batch_size::laws::a_batch_is_its_parts;
+use node_laws::sizes::laws::a_batch_is_its_parts;
 use node_laws::laws::a_made_node_has_its_records;
 use node_tables::Tables;
 use record_batch::Record;

@@ -1,6 +1,6 @@
 //! Items of an inbox that the application consumes.
 use crate::peer::{Peer, at_second};
-use call_answers::Cause;
+use node_laws::answers::Cause;
 use rm_node::NodeError;
 use std::test::Fail;
 

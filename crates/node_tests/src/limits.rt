@@ -1,6 +1,6 @@
 //! What a node refuses.
 use crate::peer::{Peer, at_first, at_second};
-use call_answers::Cause;
+use node_laws::answers::Cause;
 use rm_node::NodeError;
 use std::test::Fail;
 

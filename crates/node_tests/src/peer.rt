@@ -4,7 +4,7 @@ ghost use Rattle.rm_base.specs.Limits.{now_max};
 
 use crate::device::Device;
 use crate::texts::{FIRST_OF_1, FIRST_OF_2, message, request, response};
-use call_answers::Wish;
+use node_laws::answers::Wish;
 use node_store::MountError;
 use record_batch::Via;
 use rm_base::{Behaviour, Blob, Lapse, Uri};

@@ -12,8 +12,8 @@ use Rattle.rm_protocol.specs.Calls.{Answer}
 use Rattle.rm_protocol.specs.Next.{EachMayComeNext, HasNumbers}
 use Rattle.rm_protocol.specs.Terms.{Terms, EndsLater, ReadsBack}
 use Rattle.node_laws.specs.OwnTerms.{AreOwn, OwnAreTerms, ThereAreOwnTerms}
-use Rattle.call_answers.specs.declared.answer.Answer.{Answer as CodeAnswer}
-use Rattle.call_answers.specs.Answers.{MayBeStored}
+use Rattle.node_laws.specs.declared.answers.answer.Answer.{Answer as CodeAnswer}
+use Rattle.node_laws.specs.Answers.Answers.{MayBeStored}
 use Rattle.receive_answer.specs.Tried.{Tried}
 use Rattle.receive_answer.proofs.ReceiveLemmas.{answer-taken, done-delta, told-is}
 

@@ -6,13 +6,13 @@ use Rattle.std.proofs.lemmas.Bool.Decides.{nat_tests}
 use Rattle.std.proofs.lemmas.Grind.{flat_map-append}
 use Rattle.std.proofs.lemmas.List.{length-append}
 use Rattle.rm_base.specs.Limits.{entry_bytes}
-use Rattle.batch_size.specs.Room.{HasRoom}
+use Rattle.node_laws.specs.Sizes.Room.{HasRoom}
 use Rattle.record_batch.specs.Batch.{batch_text}
 use Rattle.record_batch.specs.Fact.{Fact, Made}
 use Rattle.sequence_table.specs.Fits.{all_fit}
 use Rattle.sequence_table.specs.Makers.{counter, draws_of, number}
 use Rattle.node_laws.specs.Records.{BeginsWithMade}
-use Rattle.call_answers.specs.Serving.{Serves}
+use Rattle.node_laws.specs.Answers.Serving.{Serves}
 
 -- a node that was made has a number
 pub number-made : (r d : List Fact) → BeginsWithMade r → all_fit [] r ≡ true → 0 < number (r ++ d)

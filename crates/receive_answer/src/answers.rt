@@ -1,8 +1,8 @@
 //! The answer to a message, and to bytes that are none.
 ghost use Rattle.std.specs.Prelude.{◌≡◌, ◌<◌, ◌^◌, ◌++◌, [], true, map, None, IfOk, OnOk, Ok, Err};
 ghost use Rattle.std.specs.List.{AllByRecursion};
-ghost use Rattle.batch_size.specs.Room.{HasRoom};
-ghost use Rattle.batch_size.specs.Typed.{IsTyped};
+ghost use Rattle.node_laws.specs.Sizes.Room.{HasRoom};
+ghost use Rattle.node_laws.specs.Sizes.Typed.{IsTyped};
 ghost use Rattle.record_batch.specs.Fact.{fact_of};
 ghost use Rattle.sequence_table.specs.Fits.{all_fit};
 ghost use Rattle.sequence_table.specs.Makers.{counter, number};
@@ -10,8 +10,8 @@ ghost use Rattle.rm_protocol.specs.Calls.{receive as receive_of};
 ghost use Rattle.rm_protocol.specs.Next.{HasNumbers};
 ghost use Rattle.rm_protocol.specs.Terms.{Terms};
 ghost use Rattle.node_laws.specs.OwnTerms.{AreOwn};
-ghost use Rattle.call_answers.specs.Answers.{MayBeStored, seen};
-ghost use Rattle.call_answers.specs.Serving.{Serves};
+ghost use Rattle.node_laws.specs.Answers.Answers.{MayBeStored, seen};
+ghost use Rattle.node_laws.specs.Answers.Serving.{Serves};
 ghost use Rattle.receive_answer.specs.Records.Stripped.{stripped};
 ghost use Rattle.receive_answer.specs.Tried.{Tried};
 ghost use Rattle.receive_answer.specs.Untold.{done_of, early_kind, told};
@@ -19,7 +19,7 @@ ghost use Rattle.tables_ahead.specs.Known.{all_records};
 
 use crate::fault::{fault_answer, judged, store_full};
 use crate::nacked::urging;
-use call_answers::{Answer, Outcome, has_room};
+use node_laws::answers::{Answer, Outcome, has_room};
 use node_laws::laws::{own_terms_are_terms, there_are_own_terms};
 use node_tables::Tables;
 use crate::records::put_rows;

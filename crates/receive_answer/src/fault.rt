@@ -10,10 +10,10 @@ ghost use Rattle.rm_protocol.specs.Calls.{
 };
 ghost use Rattle.rm_protocol.specs.Verdict.{target as target_of};
 ghost use Rattle.rm_message.specs.declared.refusal.FaultKind.TheVariants.{StoreFull};
-ghost use Rattle.call_answers.specs.Answers.{seen};
+ghost use Rattle.node_laws.specs.Answers.Answers.{seen};
 ghost use Rattle.receive_answer.specs.Untold.{judged_as};
 
-use call_answers::{Answer, Outcome, no_moves};
+use node_laws::answers::{Answer, Outcome, no_moves};
 use message_writer::fault_message;
 use node_messages::fault_endpoint;
 use receive_replies::fault_block;

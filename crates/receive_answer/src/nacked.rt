@@ -2,10 +2,10 @@
 ghost use Rattle.std.specs.Prelude.{◌≡◌, ◌++◌, map, IfOk, OnOk};
 ghost use Rattle.rm_protocol.specs.Waiting.{key, nacked as nacked_by, nacked_at, nacked_of as nacked_in};
 ghost use Rattle.sequence_table.specs.Find.{find_outgoing};
-ghost use Rattle.call_answers.specs.Answers.{moves_seen};
+ghost use Rattle.node_laws.specs.Answers.Answers.{moves_seen};
 ghost use Rattle.receive_answer.specs.Untold.{urging as urging_of};
 
-use call_answers::Moves;
+use node_laws::answers::Moves;
 use node_tables::Tables;
 use rm_base::Memory;
 use rm_elements::{AckBlock, AckKind};

@@ -3,8 +3,8 @@ use Rattle.std.proofs.Common.{◌≡◌, ◌≢◌, ◌∙◌, ℕ, Bool, true, 
 use Rattle.std.proofs.Common.{subst, inl, inr, [], ◌∷◌}
 use Rattle.std.proofs.lemmas.List.{length-map}
 use Rattle.std.specs.Prelude.{Ok, Err, IsTrue, MatchBool}
-use Rattle.call_answers.specs.declared.answer.Cause.{Cause}
-use Rattle.call_answers.specs.declared.answer.Cause.TheVariants as cause
+use Rattle.node_laws.specs.declared.answers.answer.Cause.{Cause}
+use Rattle.node_laws.specs.declared.answers.answer.Cause.TheVariants as cause
 use Rattle.node_store.specs.Has.{Holds}
 use Rattle.node_store.specs.Mounted.{Finds}
 use Rattle.node_store.specs.Rewrites.{fresh, fresh_bank, fresh_batches, fresh_entries, rewrite_refusal}

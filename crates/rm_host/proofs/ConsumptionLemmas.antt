@@ -7,9 +7,9 @@ use Rattle.std.specs.Io.KnownBytes.{Appends}
 use Rattle.std.proofs.lemmas.Grind.{flat_map-append}
 use Rattle.std.proofs.lemmas.Option.{none-some}
 use Rattle.std.proofs.Math.Seq.{take-length}
-use Rattle.call_answers.specs.Answers.{cause_seen}
-use Rattle.call_answers.specs.declared.answer.Cause.{Cause}
-use Rattle.call_answers.specs.declared.answer.Cause.TheVariants as cause
+use Rattle.node_laws.specs.Answers.Answers.{cause_seen}
+use Rattle.node_laws.specs.declared.answers.answer.Cause.{Cause}
+use Rattle.node_laws.specs.declared.answers.answer.Cause.TheVariants as cause
 use Rattle.node_laws.specs.OwnTerms.{AreOwn, ThereAreOwnTerms}
 use Rattle.node_store.specs.Has.{AreOfNode, Holds, IsLeftBy}
 use Rattle.node_store.specs.Mounted.{Finds, IsNoNode}

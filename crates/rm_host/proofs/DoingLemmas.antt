@@ -6,7 +6,7 @@ use Rattle.rm_base.specs.Count.{Rose}
 use Rattle.rm_base.specs.Outside.{AppendsFront, Stream}
 use Rattle.rm_base.specs.declared.outside.SinkError.{SinkError}
 use Rattle.rm_base.specs.declared.outside.SinkError.TheVariants as sink
-use Rattle.call_answers.specs.declared.answer.Cause.TheVariants as cause
+use Rattle.node_laws.specs.declared.answers.answer.Cause.TheVariants as cause
 use Rattle.rm_base.specs.declared.message.Behaviour.TheVariants.{FollowingFirstGap}
 use Rattle.rm_destination.specs.Incoming.{Receiving}
 use Rattle.rm_disk.specs.Told.{Told}

@@ -1,8 +1,8 @@
 -- What compact prints, and what it did to the node that it found.
 use Rattle.std.specs.Prelude.{◌≡◌, ◌⊎◌, ℕ, Bool, List, [], length, Option, Some, None, Result, Ok, Err, IsTrue}
-use Rattle.call_answers.specs.Answers.{cause_seen}
-use Rattle.call_answers.specs.declared.answer.Cause.{Cause}
-use Rattle.call_answers.specs.declared.answer.Cause.TheVariants as cause
+use Rattle.node_laws.specs.Answers.Answers.{cause_seen}
+use Rattle.node_laws.specs.declared.answers.answer.Cause.{Cause}
+use Rattle.node_laws.specs.declared.answers.answer.Cause.TheVariants as cause
 use Rattle.node_store.specs.Has.{Has}
 use Rattle.node_store.specs.Mounted.{Finds}
 use Rattle.node_store.specs.Rewrites.{IsRewritten, fresh, fresh_batches, rewrite_refusal}

@@ -1,8 +1,8 @@
 -- What consume prints, and what it did to the node that it found.
 use Rattle.std.specs.Prelude.{◌≡◌, ◌⊎◌, ℕ, Bool, false, List, ◌++◌, Option, Result, Ok, Err, IsTrue}
 use Rattle.std.specs.Io.KnownBytes.{Appends}
-use Rattle.call_answers.specs.Answers.{cause_seen}
-use Rattle.call_answers.specs.declared.answer.Cause.{Cause}
+use Rattle.node_laws.specs.Answers.Answers.{cause_seen}
+use Rattle.node_laws.specs.declared.answers.answer.Cause.{Cause}
 use Rattle.node_laws.specs.OwnTerms.{AreOwn}
 use Rattle.node_store.specs.Has.{Has, IsLeftBy}
 use Rattle.node_store.specs.Mounted.{Finds, IsNoNode}

@@ -4,7 +4,7 @@ use Rattle.node_store.specs.declared.error.ImportError.{ImportError}
 use Rattle.node_store.specs.declared.error.ImportError.TheVariants as import
 use Rattle.node_store.specs.declared.error.MountError.{MountError}
 use Rattle.node_store.specs.declared.error.MountError.TheVariants as mount
-use Rattle.call_answers.specs.declared.answer.Cause.TheVariants.{StoreFull}
+use Rattle.node_laws.specs.declared.answers.answer.Cause.TheVariants.{StoreFull}
 use Rattle.rm_base.specs.Count.{Rose, RoseBy}
 use Rattle.rm_base.specs.Outside.{Stream}
 use Rattle.rm_disk.specs.Cause.{HasCause}

@@ -1,7 +1,7 @@
 -- What import makes of its input, and what it did to the disk.
 use Rattle.std.specs.Prelude.{◌≡◌, ◌≢◌, ◌⊎◌, ℕ, ◌+◌, ◌≤◌, Bool, List, [], length, Result, Ok, Err, IfSome, IsTrue}
-use Rattle.call_answers.specs.declared.answer.Cause.{Cause}
-use Rattle.call_answers.specs.declared.answer.Cause.TheVariants as cause
+use Rattle.node_laws.specs.declared.answers.answer.Cause.{Cause}
+use Rattle.node_laws.specs.declared.answers.answer.Cause.TheVariants as cause
 use Rattle.node_store.specs.Imported.{Imports, IsNoNodeBefore, IsTooLong}
 use Rattle.node_store.specs.Stored.{Stored}
 use Rattle.node_store.specs.declared.error.ImportError.TheVariants.{Full}

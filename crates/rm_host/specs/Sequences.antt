@@ -2,7 +2,7 @@
 use Rattle.std.specs.Prelude.{◌≡◌, ℕ, ◌+◌, ◌<◌, ◌≤◌, Bool, true, false, ◌&&◌, List, ◌∷◌, [], ◌++◌, Option, Some, None}
 use Rattle.std.specs.Prelude.{length, take, drop, Result, Ok, Err, bytes_eq, codes, decimal, if◌then◌else◌, nat_lt}
 use Rattle.ack_ranges.specs.Ranges.{in_ranges}
-use Rattle.call_answers.specs.declared.answer.Cause.TheVariants as cause
+use Rattle.node_laws.specs.declared.answers.answer.Cause.TheVariants as cause
 use Rattle.node_tables.specs.Peers.{Address, Peer, Reference, peer}
 use Rattle.node_tables.specs.Reads.{incoming_in, outgoing_in}
 use Rattle.record_batch.specs.Fact.{Fact}

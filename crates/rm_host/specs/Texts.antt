@@ -1,8 +1,8 @@
 -- What a node's commands print.
 use Rattle.std.specs.Prelude.{◌≡◌, ℕ, ◌+◌, Bool, true, false, List, [], ◌++◌, codes, decimal}
 use Rattle.hex.specs.Hex.{encode_lower}
-use Rattle.call_answers.specs.declared.answer.Cause.{Cause}
-use Rattle.call_answers.specs.declared.answer.Cause.TheVariants as cause
+use Rattle.node_laws.specs.declared.answers.answer.Cause.{Cause}
+use Rattle.node_laws.specs.declared.answers.answer.Cause.TheVariants as cause
 use Rattle.rm_report.specs.Exits.{usage_line, read_fault_line, too_long_line}
 use Rattle.rm_report.specs.Report.{reason_text}
 use Rattle.rm_report.specs.declared.line.Reason.TheVariants as reason

@@ -31,7 +31,7 @@ ghost use Rattle.rm_host.specs.Makings.{HasMade};
 
 use crate::end::End;
 use crate::host::Host;
-use call_answers::Wish;
+use node_laws::answers::Wish;
 use http_endpoint::Media;
 use node_laws::laws::there_are_own_terms;
 use record_batch::Via;

@@ -18,7 +18,7 @@ use crate::end::End;
 use crate::host::Host;
 use crate::items::push_inbox;
 use crate::laws::a_command_leaves_its_records;
-use call_answers::Cause;
+use node_laws::answers::Cause;
 use node_tables::Tables;
 use rm_base::{Blob, Clock, Memory, Uri, push_decimal};
 use rm_destination::Incoming;

@@ -14,7 +14,7 @@ use crate::calls::{consume_items, mount};
 use crate::end::End;
 use crate::host::Host;
 use crate::items::push_items;
-use call_answers::Cause;
+use node_laws::answers::Cause;
 use node_tables::Tables;
 use node_tables::laws::an_incoming_sequence_is_as_recorded;
 use rm_base::{Blob, Clock, Memory, Sink, SinkError, push_decimal, write_all};

@@ -3,8 +3,8 @@ use Rattle.std.proofs.Common.{◌≡◌, inl, inr, ℕ, Bool, true, false, List,
 use Rattle.std.proofs.Common.{arith}
 use Rattle.std.specs.Prelude.{IsTrue, MatchBool, Err}
 use Rattle.std.specs.List.{AllByRecursion}
-use Rattle.batch_size.specs.Room.{HasRoom}
-use Rattle.batch_size.specs.Typed.{IsTyped}
+use Rattle.node_laws.specs.Sizes.Room.{HasRoom}
+use Rattle.node_laws.specs.Sizes.Typed.{IsTyped}
 use Rattle.record_batch.specs.Fact.{Fact}
 use Rattle.rm_disk.specs.Call.{Call}
 use Rattle.rm_timers.specs.declared.timers.Key.{Key}

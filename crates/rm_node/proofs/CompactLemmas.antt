@@ -9,7 +9,7 @@ use Rattle.record_batch.specs.Fact.{Fact}
 use Rattle.record_snapshot.specs.Snapshot.{snapshot}
 use Rattle.rm_protocol.specs.Calls.{Done, StoreFull}
 use Rattle.rm_protocol.specs.Exact.{StaysExactInShort}
-use Rattle.snapshot_laws.specs.Kept.{KeptHasProper, SnapshotIsKept}
+use Rattle.node_laws.specs.Snapshots.Kept.{KeptHasProper, SnapshotIsKept}
 use Rattle.node_store.specs.Has.{AreOfNode, Has}
 use Rattle.node_store.specs.Rewrites.{Answers, disk_failed, fit_as_entries, fresh_batches, fresh_entries, fresh_size}
 use Rattle.node_store.specs.Rewrites.{has_place, rewrite_refusal, Rewrites, rewritten}

@@ -30,7 +30,7 @@ use Rattle.rm_protocol.specs.Said.{find_grant_of, finish_response, grant_respons
 use Rattle.rm_protocol.specs.Said.{with_blocks}
 use Rattle.rm_protocol.specs.Terms.{Terms}
 use Rattle.rm_protocol.specs.Verdict.{verdict}
-use Rattle.call_answers.specs.Answers.{wish_seen}
+use Rattle.node_laws.specs.Answers.Answers.{wish_seen}
 use Rattle.rm_node.specs.Asked.{Asked, Asks, answer_to, is_connected}
 use Rattle.rm_node.specs.Keeping.{Keeping}
 use Rattle.rm_node.specs.Packets.{IsReplyFirst, back_text, fetched_packet, outs_of, packet_of, packets_of}

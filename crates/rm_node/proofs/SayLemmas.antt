@@ -11,7 +11,7 @@ use Rattle.rm_protocol.specs.Terms.{Terms}
 use Rattle.node_laws.specs.Keeps.{EachCallKeeps, LeavesANode, OfEachCall}
 use Rattle.node_laws.specs.OwnTerms.{AreOwn}
 use Rattle.node_laws.specs.Records.{IsKept}
-use Rattle.call_answers.specs.Answers.{MayBeStored, wish_seen}
+use Rattle.node_laws.specs.Answers.Answers.{MayBeStored, wish_seen}
 use Rattle.rm_node.specs.CameLemmas.{ReadsRight, RefusesRight, content_read}
 use Rattle.rm_node.specs.Asked.{Asked, Asks, MayBeAsked, answer_to, is_connected}
 use Rattle.rm_node.specs.Asked.{Create, Send, Close, End, AskAck, NackMissing, Consume, Tick, Poll, Receive}

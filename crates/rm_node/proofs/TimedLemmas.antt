@@ -30,10 +30,10 @@ use Rattle.rm_protocol.specs.Waiting.{waits_after}
 use Rattle.std.proofs.lemmas.List.{append-nil}
 use Rattle.rm_base.specs.Limits.{most_keys}
 use Rattle.node_store.specs.Stored.{Stored, first_stored, stored_after}
-use Rattle.call_answers.specs.Answers.{outcome_seen}
-use Rattle.call_answers.specs.declared.answer.Cause.{Cause as CodeCause}
-use Rattle.call_answers.specs.declared.answer.Outcome.{Outcome as CodeOutcome}
-use Rattle.call_answers.specs.declared.answer.Outcome.TheVariants as code
+use Rattle.node_laws.specs.Answers.Answers.{outcome_seen}
+use Rattle.node_laws.specs.declared.answers.answer.Cause.{Cause as CodeCause}
+use Rattle.node_laws.specs.declared.answers.answer.Outcome.{Outcome as CodeOutcome}
+use Rattle.node_laws.specs.declared.answers.answer.Outcome.TheVariants as code
 use Rattle.rm_node.specs.Ends.{is_refused}
 use Rattle.rm_node.specs.Keeping.{IsKeeping, Keeping, Keeps, kept_after}
 use Rattle.rm_node.specs.Noded.{Noded, Runs}

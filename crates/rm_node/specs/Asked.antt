@@ -11,7 +11,7 @@ use Rattle.rm_protocol.specs.Calls.{Answer, Wish}
 use Rattle.rm_protocol.specs.Polls as polled
 use Rattle.rm_protocol.specs.Terms.{Terms}
 use Rattle.node_laws.specs.Read.{MayBeWished}
-use Rattle.call_answers.specs.Answers.{wish_seen}
+use Rattle.node_laws.specs.Answers.Answers.{wish_seen}
 use Rattle.rm_node.specs.Came.{IsReadAs}
 use Rattle.rm_node.specs.Keeping.{Keeping}
 use Rattle.rm_node.specs.declared.call.Call.{Call}

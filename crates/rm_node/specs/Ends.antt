@@ -3,7 +3,7 @@ use Rattle.std.specs.Prelude.{Bool, true, false, List, [], Option, Some, None, R
 use Rattle.rm_message.specs.declared.refusal.FaultKind.{FaultKind}
 use Rattle.sequence_table.specs.Words.{Text}
 use Rattle.rm_protocol.specs.Calls.{Cause, Outcome, Done, Judged, Refused as RefusedWith}
-use Rattle.call_answers.specs.Answers.{cause_seen}
+use Rattle.node_laws.specs.Answers.Answers.{cause_seen}
 use Rattle.rm_node.specs.declared.calls.Made.{Made}
 use Rattle.rm_node.specs.declared.calls.Sent.{Sent}
 use Rattle.rm_node.specs.declared.error.NodeError.{NodeError}

@@ -2,7 +2,7 @@
 use Rattle.std.specs.Prelude.{Option, None}
 use Rattle.sequence_table.specs.Words.{Text}
 use Rattle.rm_protocol.specs.Calls.{Answer, Done, Outcome}
-use Rattle.call_answers.specs.Answers.{seen}
+use Rattle.node_laws.specs.Answers.Answers.{seen}
 use Rattle.node_waits.specs.Fetched.{fetched_seen}
 use Rattle.rm_node.specs.declared.fetch.Answered.{Answered}
 

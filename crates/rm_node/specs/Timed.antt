@@ -14,7 +14,7 @@ use Rattle.rm_protocol.specs.Calls.{Answer}
 use Rattle.rm_protocol.specs.Waiting.{begun_by, is_waiting, key}
 use Rattle.node_laws.specs.Keeps.{LeavesANode}
 use Rattle.node_laws.specs.Records.{IsKept}
-use Rattle.call_answers.specs.Answers.{MayBeStored}
+use Rattle.node_laws.specs.Answers.Answers.{MayBeStored}
 use Rattle.rm_node.specs.Asked.{Asked, Create, Send, Close, End}
 use Rattle.rm_node.specs.Ends.{is_refused}
 use Rattle.rm_node.specs.declared.kept.Kept.{Kept}

@@ -1,7 +1,7 @@
 //! What an answer says is done: its records are written, and then its packets are handed out.
 ghost use Rattle.std.specs.Prelude.{◌≡◌, true, false, is_ok, IfErr, OnOk};
 ghost use Rattle.rm_journal.specs.JournalState.{end_of};
-ghost use Rattle.call_answers.specs.Serving.{Serves};
+ghost use Rattle.node_laws.specs.Answers.Serving.{Serves};
 ghost use Rattle.rm_node.specs.Called.{EndsBy, HasBatches, StaysANode, Wrote};
 ghost use Rattle.rm_node.specs.declared.error.NodeError.TheVariants.{Down as IsDown};
 ghost use Rattle.rm_node.specs.Ends.{error_end, is_disk, is_refused};
@@ -13,7 +13,7 @@ use crate::after::{go_on, make_ready, write_down};
 use crate::error::NodeError;
 use crate::fetch::Answered;
 use crate::node::Node;
-use call_answers::Outcome;
+use node_laws::answers::Outcome;
 use node_laws::laws::a_node_has_room_for_its_keys;
 use node_store::laws::a_node_has_one_batch_more;
 use node_tables::Tables;

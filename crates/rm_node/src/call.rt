@@ -2,7 +2,7 @@
 ghost use Rattle.std.specs.Prelude.{◌≡◌};
 ghost use Rattle.rm_node.specs.Asked.{is_connected};
 
-use call_answers::Wish;
+use node_laws::answers::Wish;
 use rm_base::{Blob, Uri};
 
 /// What a node is asked for, or what comes to it. `seq` is the place of a sequence among those of the node, counted

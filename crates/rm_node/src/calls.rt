@@ -27,7 +27,7 @@ use crate::error::NodeError;
 use crate::node::Node;
 use crate::packets::Outs;
 use crate::step::Reaction;
-use call_answers::Wish;
+use node_laws::answers::Wish;
 use node_laws::laws::there_are_own_terms;
 use node_tables::Tables;
 use node_tables::laws::an_outgoing_sequence_is_as_recorded;

@@ -1,11 +1,11 @@
 //! The answer to a call, with the message that waited and is fetched: WS-MakeConnection 1.1, section 3.3.
 ghost use Rattle.std.specs.Prelude.{◌≡◌, ℕ, List, map, IfOk};
 ghost use Rattle.record_batch.specs.Fact.{Fact, fact_of};
-ghost use Rattle.call_answers.specs.Answers.{MayBeStored, outcome_seen, seen};
+ghost use Rattle.node_laws.specs.Answers.Answers.{MayBeStored, outcome_seen, seen};
 ghost use Rattle.rm_protocol.specs.Polls.{awaited, fetches};
 ghost use Rattle.rm_node.specs.Fetching.{if_taken, whole};
 
-use call_answers::{Answer, Outcome};
+use node_laws::answers::{Answer, Outcome};
 use make_connection::Pending;
 use node_waits::{Fetched, Polled, polls};
 use rm_base::{Memory, Uri};

@@ -1,6 +1,6 @@
 //! A call of a node.
 ghost use Rattle.std.specs.Prelude.{◌≡◌, false};
-ghost use Rattle.call_answers.specs.Answers.{outcome_seen};
+ghost use Rattle.node_laws.specs.Answers.Answers.{outcome_seen};
 ghost use Rattle.rm_node.specs.Asked.{MayBeAsked};
 ghost use Rattle.rm_node.specs.Called.{HasBatches, Steps};
 ghost use Rattle.rm_node.specs.Ends.{is_refused, reaction_end, verdict_outcome};
@@ -10,7 +10,7 @@ use crate::error::NodeError;
 use crate::node::Node;
 use crate::packets::{Handed, Outs};
 use crate::say::Said;
-use call_answers::Outcome;
+use node_laws::answers::Outcome;
 use rm_base::Blob;
 use rm_disk::Disk;
 use rm_message::FaultKind;

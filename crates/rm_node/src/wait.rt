@@ -1,11 +1,11 @@
 //! What an answer makes of the keys that wait.
 ghost use Rattle.std.specs.Prelude.{◌≡◌, ◌<◌, ◌≤◌, length, max, IfSome, None};
 ghost use Rattle.rm_base.specs.Limits.{most_keys, now_max};
-ghost use Rattle.call_answers.specs.Answers.{moves_seen};
+ghost use Rattle.node_laws.specs.Answers.Answers.{moves_seen};
 ghost use Rattle.key_timers.specs.Keyed.{Rises, Steps, slot_at};
 ghost use Rattle.node_waits.specs.Keys.Settled.{cells_all, changed};
 
-use call_answers::Moves;
+use node_laws::answers::Moves;
 use key_timers::KeyTimers;
 use node_tables::Tables;
 use node_waits::keys::{Touched, after_call};

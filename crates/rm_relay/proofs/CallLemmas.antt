@@ -18,7 +18,7 @@ use Rattle.rm_protocol.specs.Terms.{Terms}
 use Rattle.rm_node.specs.Asked as asks
 use Rattle.rm_node.specs.Came.{IsReadAs}
 use Rattle.rm_node.specs.declared.call.Call.TheVariants as call
-use Rattle.call_answers.specs.declared.answer.Wish.{Wish}
+use Rattle.node_laws.specs.declared.answers.answer.Wish.{Wish}
 use Rattle.rm_replay.specs.AllLemmas.{all_get, some_same}
 use Rattle.rm_replay.specs.Net.{AreOfNet, read_as, text_of}
 use Rattle.rm_relay.specs.Word.World.{Event, Packet, World, Close, Create, Deliver, End, Send, Tick, address_of}

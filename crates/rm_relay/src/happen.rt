@@ -18,7 +18,7 @@ use crate::onward::{find_acknowledged, find_ends, find_next};
 use crate::report::Ending;
 use crate::stage::{Nodes3, Stage3};
 use crate::wire::{Senders, address_bytes, put_came, station_with};
-use call_answers::Wish;
+use node_laws::answers::Wish;
 use rm_replay::actor::Came;
 use rm_replay::actor::laws::each_image_is_left;
 use node_laws::laws::{each_message_keeps_the_rules, what_waits_keeps_the_rules};

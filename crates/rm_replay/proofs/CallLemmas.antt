@@ -35,7 +35,7 @@ use Rattle.rm_replay.specs.Net.{AreOfNet, number_of, read_as, text_of, wire_pack
 use Rattle.rm_replay.specs.Tales.{Tells, fault_at, receiver}
 use Rattle.rm_node.specs.Asked as asks
 use Rattle.rm_node.specs.declared.call.Call.TheVariants as call
-use Rattle.call_answers.specs.declared.answer.Wish.{Wish}
+use Rattle.node_laws.specs.declared.answers.answer.Wish.{Wish}
 use Rattle.rm_replay.specs.declared.stage.Nodes.{Nodes}
 use Rattle.rm_replay.proofs.EventLemmas.{IsCall}
 use Rattle.rm_replay.specs.TaleLemmas.{tells_none}

@@ -17,7 +17,7 @@ ghost use Rattle.rm_replay.specs.Shows.{Drives, Shows, StandFor, address_of, dri
 use crate::ask::ask_at;
 use crate::stage::{Nodes, Stage};
 use crate::wire::put_came;
-use call_answers::Wish;
+use node_laws::answers::Wish;
 use message_reader::decode;
 use crate::actor::laws::each_image_is_left;
 use node_laws::laws::{each_message_keeps_the_rules, what_waits_keeps_the_rules};

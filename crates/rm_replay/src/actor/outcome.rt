@@ -1,13 +1,13 @@
 //! How a call came out, as a report tells it.
 ghost use Rattle.std.specs.Prelude.{◌≡◌, None, []};
-ghost use Rattle.call_answers.specs.Answers.{cause_seen};
+ghost use Rattle.node_laws.specs.Answers.Answers.{cause_seen};
 ghost use Rattle.rm_node.specs.Compacted.{compact_end};
 ghost use Rattle.rm_node.specs.Ends.{reaction_end, verdict_outcome};
 ghost use Rattle.rm_replay.specs.Actor.Comes.{ComesOut, ComesOutAs, IsTold};
 ghost use Rattle.rm_replay.specs.Actor.Outcomes.{answer_told, refusal_told};
 
 use crate::actor::actor::Came;
-use call_answers::Cause;
+use node_laws::answers::Cause;
 use rm_base::Memory;
 use rm_message::FaultKind;
 use rm_node::{NodeError, Outs, Reaction};

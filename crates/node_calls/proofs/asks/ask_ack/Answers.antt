@@ -2,7 +2,7 @@ use Rattle.std.proofs.Common.{◌≡◌, subst, ◌∙◌}
 use Rattle.std.specs.Prelude.{IfOk}
 use Rattle.sequence_table.specs.Makers.{maker}
 use Rattle.rm_protocol.specs.Calls.{Answer, ask_out}
-use Rattle.call_answers.specs.Answers.{seen}
+use Rattle.node_laws.specs.Answers.Answers.{seen}
 use Rattle.node_calls.proofs.AskLemmas.{refused-side, right-side}
 use Rattle.node_calls.proofs.asks.ask_ack.Goals as goal
 

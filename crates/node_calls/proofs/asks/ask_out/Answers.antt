@@ -1,7 +1,7 @@
 use Rattle.std.proofs.Common.{◌≡◌, sym, ap, subst, ◌∙◌}
 use Rattle.std.specs.Prelude.{IfOk}
 use Rattle.rm_protocol.specs.Calls.{Answer, may_end}
-use Rattle.call_answers.specs.Answers.{seen}
+use Rattle.node_laws.specs.Answers.Answers.{seen}
 use Rattle.node_calls.proofs.AskLemmas.{ask-comes}
 use Rattle.node_calls.proofs.asks.ask_out.Goals as goal
 

@@ -1,4 +1,4 @@
-use Rattle.call_answers.specs.Answers.{wish_seen}
+use Rattle.node_laws.specs.Answers.Answers.{wish_seen}
 use Rattle.node_calls.proofs.StoredLemmas.{stored}
 use Rattle.node_calls.proofs.calls.create.Goals as goal
 

@@ -1,7 +1,7 @@
 use Rattle.std.proofs.Common.{◌≡◌, sym, ap, ◌∙◌, subst, Option}
 use Rattle.std.specs.Prelude.{IfOk}
 use Rattle.rm_protocol.specs.Calls.{Answer, Cause, if_room}
-use Rattle.call_answers.specs.Answers.{seen}
+use Rattle.node_laws.specs.Answers.Answers.{seen}
 use Rattle.node_calls.specs.Causes.{unless_refused}
 use Rattle.node_calls.specs.Comes.{consumed}
 use Rattle.node_calls.proofs.ConsumeLemmas.{consume_in-is, short-consumed}

@@ -1,7 +1,7 @@
 use Rattle.std.proofs.Common.{◌≡◌, sym, ◌∙◌, subst}
 use Rattle.std.specs.Prelude.{IfOk}
 use Rattle.rm_protocol.specs.Calls.{Answer}
-use Rattle.call_answers.specs.Answers.{seen}
+use Rattle.node_laws.specs.Answers.Answers.{seen}
 use Rattle.node_calls.proofs.ComesLemmas.{with-pushed}
 use Rattle.node_calls.proofs.ConsumeLemmas.{comes-consumed, comes-to-nothing}
 use Rattle.node_calls.proofs.consumes.consumed.Goals as goal

@@ -4,7 +4,7 @@ use Rattle.sequence_table.specs.Fits.{is_incoming_side}
 use Rattle.sequence_table.specs.Makers.{maker}
 use Rattle.rm_protocol.specs.Calls.{Answer}
 use Rattle.tables_ahead.specs.Known.{KnownRecords, all_records}
-use Rattle.call_answers.specs.Answers.{seen}
+use Rattle.node_laws.specs.Answers.Answers.{seen}
 use Rattle.node_calls.specs.Records.{IsServing}
 use Rattle.node_calls.proofs.AskLemmas.{nack-comes}
 use Rattle.node_calls.proofs.nacks.nack_in.Goals as goal

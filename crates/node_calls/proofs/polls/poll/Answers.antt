@@ -2,7 +2,7 @@ use Rattle.std.proofs.Common.{◌≡◌, ◌<◌, [], subst, sym}
 use Rattle.std.specs.Prelude.{IfOk}
 use Rattle.sequence_table.specs.Makers.{number}
 use Rattle.rm_protocol.specs.Calls.{Answer}
-use Rattle.call_answers.specs.Answers.{seen}
+use Rattle.node_laws.specs.Answers.Answers.{seen}
 use Rattle.tables_ahead.specs.Known.{KnownRecords, all_records}
 use Rattle.node_calls.proofs.AskLemmas.{poll-comes}
 use Rattle.node_calls.proofs.KeyLemmas.{number-begun}

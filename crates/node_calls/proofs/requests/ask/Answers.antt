@@ -2,7 +2,7 @@ use Rattle.std.proofs.Common.{◌≡◌, ◌+◌, Bool, cond, length, sym, ap, �
 use Rattle.std.specs.Prelude.{IfOk}
 use Rattle.rm_protocol.specs.Calls.{Answer, TooManySequences, if_room, refusal, wanted}
 use Rattle.sequence_table.specs.Makers.{makers}
-use Rattle.call_answers.specs.Answers.{seen, wish_seen}
+use Rattle.node_laws.specs.Answers.Answers.{seen, wish_seen}
 use Rattle.node_calls.specs.Comes.{asked}
 use Rattle.node_calls.proofs.CauseLemmas.{few-enough}
 use Rattle.node_calls.proofs.requests.ask.Goals as goal

@@ -1,7 +1,7 @@
 use Rattle.std.proofs.Common.{◌≡◌, ap, ◌∙◌, ◌+◌, subst}
 use Rattle.std.specs.Prelude.{IfOk}
 use Rattle.rm_protocol.specs.Calls.{Answer, offer_of}
-use Rattle.call_answers.specs.Answers.{seen, wish_seen}
+use Rattle.node_laws.specs.Answers.Answers.{seen, wish_seen}
 use Rattle.node_calls.proofs.ComesLemmas.{comes-asked, with-pushed}
 use Rattle.node_calls.proofs.requests.asked.Goals as goal
 

@@ -1,7 +1,7 @@
 use Rattle.std.proofs.Common.{◌≡◌, List, ◌++◌, map, sym, ap, subst, ◌∙◌}
 use Rattle.std.specs.List.{AllByRecursion}
-use Rattle.batch_size.specs.Room.{HasRoom}
-use Rattle.batch_size.specs.Typed.{IsTyped}
+use Rattle.node_laws.specs.Sizes.Room.{HasRoom}
+use Rattle.node_laws.specs.Sizes.Typed.{IsTyped}
 use Rattle.record_batch.specs.Fact.{Fact, fact_of}
 use Rattle.sequence_table.specs.Makers.{makers}
 use Rattle.rm_protocol.specs.Calls.{expired_from, messages_at, ticked}

@@ -1,7 +1,7 @@
 use Rattle.std.proofs.Common.{◌≡◌, ◌∙◌, ℕ, ◌+◌, ◌*◌, length, ap, arith}
 use Rattle.std.specs.Prelude.{nat_le}
 use Rattle.rm_base.specs.Limits.{parameter_bytes}
-use Rattle.batch_size.specs.Size.{capped}
+use Rattle.node_laws.specs.Sizes.Size.{capped}
 use Rattle.wsa_headers.specs.Endpoint.{params_length}
 use Rattle.node_store.proofs.EndpointLemmas.{params_sum, short_decides}
 use Rattle.node_store.proofs.endpoints.is_short.Goals as goal

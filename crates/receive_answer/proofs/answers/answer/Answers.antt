@@ -3,7 +3,7 @@ use Rattle.std.specs.Prelude.{IfOk}
 use Rattle.record_batch.specs.Fact.{Fact}
 use Rattle.sequence_table.specs.Fits.{all_fit}
 use Rattle.rm_protocol.specs.Calls.{Answer}
-use Rattle.call_answers.specs.Answers.{seen}
+use Rattle.node_laws.specs.Answers.Answers.{seen}
 use Rattle.receive_answer.proofs.FitLemmas.{nothing-stored}
 use Rattle.receive_answer.proofs.ReceiveLemmas.{none-early, told-early}
 use Rattle.receive_answer.proofs.answers.answer.Goals as goal

@@ -4,7 +4,7 @@ use Rattle.record_batch.specs.Fact.{Fact}
 use Rattle.rm_protocol.specs.Calls.{Answer, Done}
 use Rattle.rm_protocol.specs.Said.{said}
 use Rattle.rm_protocol.specs.Waiting.{Moves}
-use Rattle.call_answers.specs.Answers.{moves_seen}
+use Rattle.node_laws.specs.Answers.Answers.{moves_seen}
 use Rattle.receive_answer.specs.Untold.{done_of, urging}
 use Rattle.receive_answer.proofs.answers.done.Goals as goal
 

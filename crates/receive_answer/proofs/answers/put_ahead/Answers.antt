@@ -1,6 +1,6 @@
 use Rattle.std.proofs.Common.{◌≡◌, true, List, subst}
 use Rattle.std.specs.Prelude.{IfOk}
-use Rattle.batch_size.specs.Room.{HasRoom}
+use Rattle.node_laws.specs.Sizes.Room.{HasRoom}
 use Rattle.record_batch.specs.Fact.{Fact}
 use Rattle.rm_protocol.specs.Terms.{Terms}
 use Rattle.rm_protocol.specs.Verdict.{has_room}

@@ -3,8 +3,8 @@ use Rattle.std.specs.Prelude.{IfOk}
 use Rattle.record_batch.specs.Fact.{fact_of}
 use Rattle.tables_ahead.specs.Known.{KnownRecords}
 use Rattle.rm_protocol.specs.Calls.{Answer}
-use Rattle.call_answers.specs.Answers.{MayBeStored, seen}
-use Rattle.call_answers.specs.Serving.{Serves}
+use Rattle.node_laws.specs.Answers.Answers.{MayBeStored, seen}
+use Rattle.node_laws.specs.Answers.Serving.{Serves}
 use Rattle.receive_answer.specs.Untold.{told}
 use Rattle.receive_answer.proofs.ReceiveLemmas.{told-is}
 use Rattle.receive_answer.proofs.answers.receive.Goals as goal

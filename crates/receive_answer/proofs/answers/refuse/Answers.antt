@@ -1,7 +1,7 @@
 use Rattle.std.proofs.Common.{◌≡◌, None, sym, subst, ap}
 use Rattle.std.specs.Prelude.{IfOk}
 use Rattle.rm_protocol.specs.Calls.{Answer}
-use Rattle.call_answers.specs.Answers.{seen}
+use Rattle.node_laws.specs.Answers.Answers.{seen}
 use Rattle.receive_answer.specs.Untold.{judged_as}
 use Rattle.receive_answer.proofs.FitLemmas.{nothing-stored}
 use Rattle.receive_answer.proofs.answers.refuse.Goals as goal

@@ -4,7 +4,7 @@ use Rattle.record_batch.specs.Fact.{Fact}
 use Rattle.sequence_table.specs.Fits.{all_fit}
 use Rattle.sequence_table.specs.Makers.{counter, number}
 use Rattle.rm_protocol.specs.Calls.{Answer}
-use Rattle.call_answers.specs.Answers.{MayBeStored, seen}
+use Rattle.node_laws.specs.Answers.Answers.{MayBeStored, seen}
 use Rattle.receive_answer.specs.Untold.{done_of, full_of}
 use Rattle.receive_answer.proofs.FitLemmas.{OwnLaws, added-fit, nothing-stored, stored-by}
 use Rattle.receive_answer.proofs.ReceiveLemmas.{answer-full, answer-taken}

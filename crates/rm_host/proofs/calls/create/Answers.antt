@@ -1,7 +1,7 @@
 use Rattle.std.proofs.Common.{◌≡◌, ◌∙◌, Err, ap, false, refl, sym, subst, true}
 use Rattle.std.specs.Prelude.{IfErr}
 use Rattle.std.proofs.lemmas.Result.{err_from_is_err_and}
-use Rattle.call_answers.specs.Answers.{wish_seen}
+use Rattle.node_laws.specs.Answers.Answers.{wish_seen}
 use Rattle.rm_disk.specs.Cause.{HasCause}
 use Rattle.rm_node.specs.Asked.{Create}
 use Rattle.rm_node.specs.Ends.{is_handed, made_end}

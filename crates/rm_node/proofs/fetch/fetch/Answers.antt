@@ -2,7 +2,7 @@ use Rattle.std.proofs.Common.{◌∙◌, List, Option, ap}
 use Rattle.rm_message.specs.declared.message.Message.{Message}
 use Rattle.rm_protocol.specs.Calls.{Answer, Fetched}
 use Rattle.rm_protocol.specs.Polls.{awaited, fetched_with, said_beside}
-use Rattle.call_answers.specs.Answers.{outcome_seen, seen}
+use Rattle.node_laws.specs.Answers.Answers.{outcome_seen, seen}
 use Rattle.rm_node.specs.Fetching.{if_taken}
 use Rattle.rm_node.proofs.fetch.fetch.Goals as goal
 

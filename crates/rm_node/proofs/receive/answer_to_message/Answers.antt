@@ -1,7 +1,7 @@
 use Rattle.std.proofs.Common.{◌≡◌, subst}
 use Rattle.std.specs.Prelude.{IfOk}
 use Rattle.rm_protocol.specs.Calls.{Answer}
-use Rattle.call_answers.specs.Answers.{seen}
+use Rattle.node_laws.specs.Answers.Answers.{seen}
 use Rattle.rm_node.specs.Fetching.{whole}
 use Rattle.rm_node.proofs.FetchLemmas.{polls-by}
 use Rattle.rm_node.proofs.receive.answer_to_message.Goals as goal

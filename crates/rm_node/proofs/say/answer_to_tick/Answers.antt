@@ -3,8 +3,8 @@ use Rattle.std.specs.Prelude.{IfOk}
 use Rattle.rm_timers.specs.declared.timers.Key.{Key}
 use Rattle.key_timers.specs.Waits.{first_due}
 use Rattle.rm_protocol.specs.Calls.{tick_with}
-use Rattle.call_answers.specs.Answers.{seen}
-use Rattle.call_answers.specs.declared.answer.Answer.{Answer}
+use Rattle.node_laws.specs.Answers.Answers.{seen}
+use Rattle.node_laws.specs.declared.answers.answer.Answer.{Answer}
 use Rattle.rm_node.proofs.say.answer_to_tick.Goals as goal
 
 pub returns-clause-is : goal.returns-clause-is

@@ -1,7 +1,7 @@
 use Rattle.std.proofs.Common.{◌≡◌, refl, sym, subst}
 use Rattle.std.specs.Prelude.{IfOk}
-use Rattle.call_answers.specs.Answers.{seen, wish_seen}
-use Rattle.call_answers.specs.declared.answer.Answer.{Answer}
+use Rattle.node_laws.specs.Answers.Answers.{seen, wish_seen}
+use Rattle.node_laws.specs.declared.answers.answer.Answer.{Answer}
 use Rattle.rm_node.specs.Asked.{Asked, Asks, IsAsked, answer_to}
 use Rattle.rm_node.specs.Asked.{Create, Send, Close, End, AskAck, NackMissing, Consume, Tick, Poll}
 use Rattle.rm_node.specs.declared.call.Call.{Call}

@@ -1,7 +1,7 @@
 use Rattle.std.proofs.Common.{◌≡◌, ◌∙◌, map, sym, subst, arith}
 use Rattle.std.specs.Vec.{vec_len}
 use Rattle.std.proofs.lemmas.Bool.{eqb-true}
-use Rattle.batch_size.specs.Room.{HasRoom}
+use Rattle.node_laws.specs.Sizes.Room.{HasRoom}
 use Rattle.record_batch.specs.Fact.{fact_of}
 use Rattle.rm_journal.specs.JournalState.{end_of}
 use Rattle.node_store.specs.Stored.{Stored}

@@ -2,7 +2,7 @@ use Rattle.std.proofs.Common.{List, length, ap, refl, arith}
 use Rattle.std.proofs.lemmas.Result.{err_from_is_err_and}
 use Rattle.record_batch.specs.Fact.{Fact}
 use Rattle.sequence_table.specs.Makers.{makers}
-use Rattle.call_answers.specs.Answers.{wish_seen}
+use Rattle.node_laws.specs.Answers.Answers.{wish_seen}
 use Rattle.rm_journal.specs.JournalState.{end_of}
 use Rattle.rm_node.specs.Asked.{Create}
 use Rattle.rm_node.specs.Ends.{made_end}

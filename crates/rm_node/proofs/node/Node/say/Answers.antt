@@ -4,7 +4,7 @@ use Rattle.record_batch.specs.Fact.{Fact, fact_of}
 use Rattle.rm_protocol.specs.Terms.{Terms}
 use Rattle.node_laws.specs.OwnTerms.{AreOwn}
 use Rattle.node_laws.specs.Records.{IsKept}
-use Rattle.call_answers.specs.Answers.{MayBeStored}
+use Rattle.node_laws.specs.Answers.Answers.{MayBeStored}
 use Rattle.rm_node.specs.Asked.{Asked, Asks, answer_to}
 use Rattle.rm_node.specs.Fetching.{whole}
 use Rattle.rm_node.specs.Keeping.{Keeping, Keeps}

@@ -1,5 +1,0 @@
-use Rattle.batch_size.proofs.ShortLemmas.{kept-batch}
-use Rattle.batch_size.proofs.laws.a_batch_that_fits_is_read_back.Goals as goal
-
-pub returns : goal.returns
-returns c = kept-batch c.parameters_are_read_back.ensures

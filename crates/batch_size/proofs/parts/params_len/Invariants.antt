@@ -1,8 +1,0 @@
-use Rattle.std.proofs.Common.{◌≡◌, map, take}
-use Rattle.std.specs.List.{sum_by}
-use Rattle.soap_profile.specs.View.{element_view}
-use Rattle.batch_size.specs.Size.{capped, param_size}
-use Rattle.batch_size.proofs.parts.params_len.Given as goal
-
-abbrev pub invariant-loop-param : goal.invariant-loop-param
-invariant-loop-param l = l.total ≡ capped (sum_by param_size (map element_view (take l.param-index l.params)))

@@ -1,0 +1,3 @@
+-- The lemmas of `sizes`.
+pub mod SizeLemmas
+pub mod ShortLemmas

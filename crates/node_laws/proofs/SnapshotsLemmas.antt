@@ -1,0 +1,2 @@
+-- The lemmas of `snapshots`.
+pub mod KeptLemmas

@@ -1,0 +1,3 @@
+-- The definitions of `answers`.
+pub mod Answers
+pub mod Serving

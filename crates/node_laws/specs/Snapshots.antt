@@ -1,0 +1,2 @@
+-- The definitions of `snapshots`.
+pub mod Kept

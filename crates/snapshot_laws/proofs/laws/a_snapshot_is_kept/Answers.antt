@@ -1,5 +1,0 @@
-use Rattle.snapshot_laws.proofs.KeptLemmas.{snapshot_kept}
-use Rattle.snapshot_laws.proofs.laws.a_snapshot_is_kept.Goals as goal
-
-pub returns : goal.returns
-returns c = snapshot_kept c.union_has_both.ensures c.ends_are_right.ensures c.same_numbers_same_ranges.ensures

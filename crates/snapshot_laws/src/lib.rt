@@ -1,6 +1,0 @@
-//! What a snapshot is of a node's records. A law alone, above the records that a node accepts, `node_laws`.
-#![tactic(auto)]
-
-pub mod laws;
-
-pub use laws::a_snapshot_is_kept;
