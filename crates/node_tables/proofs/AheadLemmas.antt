@@ -5,8 +5,8 @@ use Rattle.std.specs.Prelude.{◌&&◌, slice_get}
 use Rattle.std.specs.List.{remove}
 use Rattle.std.specs.Option.{option_to_list}
 use Rattle.record_batch.specs.Fact.{Fact, Creating, Granted}
-use Rattle.sequence_row.specs.declared.row.Start.{Start}
-use Rattle.sequence_row.specs.Row.{Seen, started}
+use Rattle.node_tables.specs.declared.row.row.Start.{Start}
+use Rattle.node_tables.specs.Row.Row.{Seen, started}
 use Rattle.node_tables.specs.declared.note.Coming.{Coming}
 use Rattle.node_tables.specs.Room.{AreBegun, spare_of, spares_ahead, starts}
 use Rattle.node_tables.specs.Room.{starts_of}

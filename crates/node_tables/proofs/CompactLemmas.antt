@@ -40,7 +40,7 @@ use Rattle.record_snapshot.specs.SameLemmas.{frame-decides, unacked-is-equal}
 use Rattle.record_snapshot.specs.Snapshot.{passed, settled, snapshot}
 use Rattle.record_snapshot.specs.WalkLemmas.{snapshot-fits}
 use Rattle.record_snapshot.specs.WrittenLemmas.{snapshot-is-proper}
-use Rattle.sequence_row.specs.Row.{forgotten}
+use Rattle.node_tables.specs.Row.Row.{forgotten}
 use Rattle.node_tables.specs.declared.note.Note.{Note}
 use Rattle.node_tables.specs.declared.note.Note.TheVariants as note
 use Rattle.node_tables.specs.Kept.{AllHeld, HavePlaces, Holds, IsHeld, IsShort, Table, accepted_count_in}

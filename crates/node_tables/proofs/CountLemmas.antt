@@ -10,7 +10,7 @@ use Rattle.sequence_table.specs.Words.{last_or}
 use Rattle.sequence_table.specs.Makers.{makers, makers_of, counter, draws_of}
 use Rattle.sequence_table.specs.Fits.{fits, all_fit, has_places, is_no_moment, offer_fits}
 use Rattle.sequence_table.specs.NodeLemmas.{one_more}
-use Rattle.sequence_row.specs.Row.{is_moment}
+use Rattle.node_tables.specs.Row.Row.{is_moment}
 use Rattle.node_tables.specs.Kept.{Table, Holds, is_timed_record, records_in}
 use Rattle.node_tables.proofs.RowsLemmas.{rows-count}
 

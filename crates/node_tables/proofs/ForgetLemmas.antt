@@ -3,7 +3,7 @@ use Rattle.std.proofs.Common.{◌≡◌, ℕ, zero, suc, ◌+◌, ◌<◌, ◌�
 use Rattle.std.proofs.Common.{arith}
 use Rattle.std.proofs.lemmas.List.{length-map, map-set}
 use Rattle.sequence_table.specs.Told.{Told}
-use Rattle.sequence_row.specs.Row.{Seen, forgotten}
+use Rattle.node_tables.specs.Row.Row.{Seen, forgotten}
 use Rattle.node_tables.specs.Kept.{all_forgotten, row_at, tolds}
 use Rattle.node_tables.proofs.StepLemmas.{row-at}
 

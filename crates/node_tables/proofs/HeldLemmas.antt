@@ -17,7 +17,7 @@ use Rattle.sequence_table.specs.Find.{accept_of}
 use Rattle.sequence_table.specs.GatherLemmas.{flat_map-more}
 use Rattle.sequence_table.specs.Sources.{accepted_of, dropped_of}
 use Rattle.sequence_table.specs.Words.{last_or}
-use Rattle.sequence_row.specs.Row.{takes}
+use Rattle.node_tables.specs.Row.Row.{takes}
 use Rattle.sequence_table.specs.Destinations.{received_of}
 use Rattle.sequence_table.specs.Fits.{fits, all_fit, follows}
 use Rattle.sequence_table.specs.OneMore.{number_after}

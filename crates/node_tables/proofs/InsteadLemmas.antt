@@ -30,7 +30,7 @@ use Rattle.sequence_table.specs.Told.{Side, Sends, Receives, Told, told_by}
 use Rattle.record_snapshot.specs.Same.{HasProper}
 use Rattle.record_snapshot.specs.Snapshot.{acked_with, acks, instead, left_acked, passed, past_front, purged_with}
 use Rattle.record_snapshot.specs.Snapshot.{settled}
-use Rattle.sequence_row.specs.Row.{forgotten}
+use Rattle.node_tables.specs.Row.Row.{forgotten}
 use Rattle.node_tables.specs.declared.note.Note.{Note}
 use Rattle.node_tables.specs.declared.note.Note.TheVariants as note
 use Rattle.node_tables.specs.Kept.{HasPlace, accepted_count_in, dropped_in, fact_at, is_whole, kept_at, no_row}

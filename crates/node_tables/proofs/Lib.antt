@@ -15,3 +15,4 @@ mod ShorterLemmas
 mod StepLemmas
 mod TellLemmas
 mod WaitLemmas
+pub mod RowLemmas

@@ -9,7 +9,7 @@ use Rattle.rm_base.specs.Numbered.{numbered}
 use Rattle.sequence_table.specs.Told.{Side, Sends, Receives}
 use Rattle.record_snapshot.specs.Same.{AreProper}
 use Rattle.record_snapshot.specs.Snapshot.{past_front}
-use Rattle.sequence_row.specs.Row.{Seen, receiving_in}
+use Rattle.node_tables.specs.Row.Row.{Seen, receiving_in}
 use Rattle.node_tables.specs.Kept.{tolds}
 use Rattle.node_tables.specs.Shorter.{IsRange, passed_by, passed_in}
 use Rattle.node_tables.proofs.RowsLemmas.{numbered-map}

@@ -13,8 +13,8 @@ use Rattle.record_batch.specs.Fact.{Ending}
 use Rattle.record_batch.specs.Fact.{EndedOut, Ended, Failed, Consumed, Dropped, Purged}
 use Rattle.sequence_table.specs.Told.{Side, Sends, Receives, Told, names}
 use Rattle.rm_base.specs.declared.message.Payload.{Payload}
-use Rattle.sequence_row.specs.Row.{Room, Seen, is_sender, side_step, takes, takes_message, takes_payload, with_room}
-use Rattle.sequence_row.specs.Row.{with_accepted, with_acked, with_received}
+use Rattle.node_tables.specs.Row.Row.{Room, Seen, is_sender, side_step, takes, takes_message, takes_payload, with_room}
+use Rattle.node_tables.specs.Row.Row.{with_accepted, with_acked, with_received}
 use Rattle.node_tables.specs.declared.note.Coming.{Coming}
 use Rattle.node_tables.specs.Kept.{Tabled, row_at, tolds}
 use Rattle.node_tables.specs.Ready.{IsReady}

@@ -21,8 +21,8 @@ use Rattle.sequence_table.specs.Fits.{fits, follows, is_incoming_side, is_outgoi
 use Rattle.sequence_table.specs.Sources.{accepted_count, phase}
 use Rattle.sequence_table.specs.Destinations.{behaviour, cursor, has_end, held, inbox, is_stopped}
 use Rattle.sequence_table.specs.Told.{Side, Sends, Receives, Told, names, told_all, told_by, told_from}
-use Rattle.sequence_row.specs.Row.{Seen, takes, draws_next, receiving_in}
-use Rattle.sequence_row.specs.TakesLemmas.{fits-takes}
+use Rattle.node_tables.specs.Row.Row.{Seen, takes, draws_next, receiving_in}
+use Rattle.node_tables.specs.Row.TakesLemmas.{fits-takes}
 use Rattle.node_tables.specs.Kept.{Table, Holds, held_in, records_in, told_in, takes_at, is_naming, row_at, no_row}
 
 -- a set of numbers has no range where there is none of them

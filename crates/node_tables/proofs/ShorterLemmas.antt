@@ -38,7 +38,7 @@ use Rattle.node_tables.specs.Kept.{row_at}
 use Rattle.node_tables.specs.Kept.{told_in}
 use Rattle.node_tables.specs.Shorter.{HasRow, IsFree, IsOwn, IsProperNote, IsPut, IsRecorded, acked_by, acked_in}
 use Rattle.node_tables.specs.Shorter.{fact_ahead, fact_instead, marked, passed_by, passed_in, some_ranges, stays_as}
-use Rattle.sequence_row.specs.Row.{forgotten}
+use Rattle.node_tables.specs.Row.Row.{forgotten}
 use Rattle.node_tables.proofs.ApplyLemmas.{fits-next}
 use Rattle.node_tables.proofs.InsteadLemmas.{IsAt, acked-known, acked-sends, accepted-sends, left-accepted}
 use Rattle.node_tables.proofs.InsteadLemmas.{left-received}

@@ -18,9 +18,9 @@ use Rattle.record_batch.specs.Fact.{Fact, Accepted, Acked, Received}
 use Rattle.sequence_table.specs.Fits.{follows, is_up_to}
 use Rattle.sequence_table.specs.Told.{Told, Side, Sends, Receives, names, after, each_after}
 use Rattle.sequence_table.specs.ToldLemmas.{after-elsewhere, same_told}
-use Rattle.sequence_row.specs.Row.{Seen, is_open, step, takes, takes_acked, takes_message}
-use Rattle.sequence_row.specs.Row.{side_step, takes_payload, ticket_step}
-use Rattle.sequence_row.specs.StepLemmas.{after-step}
+use Rattle.node_tables.specs.Row.Row.{Seen, is_open, step, takes, takes_acked, takes_message}
+use Rattle.node_tables.specs.Row.Row.{side_step, takes_payload, ticket_step}
+use Rattle.node_tables.specs.Row.StepLemmas.{after-step}
 use Rattle.node_tables.specs.Kept.{no_row, row_at, tolds}
 
 -- no row changes by a record that names none of them

@@ -27,7 +27,7 @@ use Rattle.sequence_table.specs.OneMore.{number_after}
 use Rattle.sequence_table.specs.Told.{Told, Side, Sends, Receives, begun, each_after, names, side_of, told_by}
 use Rattle.sequence_table.specs.NameLemmas.{names-within}
 use Rattle.record_batch.specs.declared.record.Record.{Record}
-use Rattle.sequence_row.specs.Row.{Seen, takes, takes_message, takes_payload}
+use Rattle.node_tables.specs.Row.Row.{Seen, takes, takes_message, takes_payload}
 use Rattle.node_tables.specs.declared.note.Note.{Note}
 use Rattle.node_tables.specs.declared.note.Note.TheVariants as note
 use Rattle.node_tables.specs.declared.note.Origin.{Origin}

@@ -17,7 +17,7 @@ use Rattle.ack_ranges.specs.declared.range.Range.{Range}
 use Rattle.ack_ranges.specs.Changes.{united, with_range}
 use Rattle.ack_ranges.specs.Ranges.{count_of, size_of}
 use Rattle.sequence_table.specs.Told.{Told, told_by, told_from}
-use Rattle.sequence_row.specs.Row.{Seen}
+use Rattle.node_tables.specs.Row.Row.{Seen}
 use Rattle.node_tables.specs.Kept.{Table, Holds, records_in, tolds}
 use Rattle.node_tables.specs.Reads.{waiting}
 

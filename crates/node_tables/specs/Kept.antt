@@ -21,7 +21,7 @@ use Rattle.sequence_table.specs.Destinations.{held}
 use Rattle.sequence_table.specs.Fits.{all_fit}
 use Rattle.sequence_table.specs.Sources.{accepted_count}
 use Rattle.sequence_table.specs.Told.{Told, Side, Sends, Receives, begun, told_by, told_all}
-use Rattle.sequence_row.specs.Row.{Seen, forgotten, is_moment, takes}
+use Rattle.node_tables.specs.Row.Row.{Seen, forgotten, is_moment, takes}
 use Rattle.node_tables.specs.declared.note.Note.{Note}
 use Rattle.node_tables.specs.declared.note.Note.TheVariants as note
 use Rattle.node_tables.specs.declared.note.Origin.{Origin}

@@ -8,3 +8,4 @@ pub mod Ready
 pub mod RecordedLemmas
 pub mod Room
 pub mod Shorter
+pub mod Row

@@ -3,9 +3,9 @@ use Rattle.std.specs.Prelude.{◌≡◌, ℕ, ◌+◌, ◌-◌, ◌≤◌, ◌<�
 use Rattle.std.specs.Prelude.{◌∷◌, ◌++◌}
 use Rattle.std.specs.Prelude.{length, map, sum_by, slice_index_or, slice_set, None, Some}
 use Rattle.record_batch.specs.Fact.{Fact, Creating, Granted, Accepted, Acked, Received, Dropped, Purged}
-use Rattle.sequence_row.specs.declared.row.Start.{Start}
-use Rattle.sequence_row.specs.declared.row.Start.TheVariants as start
-use Rattle.sequence_row.specs.Row.{Room, Seen, is_sender, is_timed_start, no_room, started}
+use Rattle.node_tables.specs.declared.row.row.Start.{Start}
+use Rattle.node_tables.specs.declared.row.row.Start.TheVariants as start
+use Rattle.node_tables.specs.Row.Row.{Room, Seen, is_sender, is_timed_start, no_room, started}
 use Rattle.node_tables.specs.declared.note.Coming.{Coming}
 
 -- a sequence: whether it sends, and the room for more

@@ -4,8 +4,8 @@ ghost use Rattle.std.specs.Prelude.{IsTrue, vec_len, vec_capacity};
 ghost use Rattle.std.specs.List.{flat_map, list_all};
 ghost use Rattle.std.specs.Option.{option_to_list};
 ghost use Rattle.record_batch.specs.Fact.{fact_of};
-ghost use Rattle.sequence_row.specs.declared.row.Start.{Start};
-ghost use Rattle.sequence_row.specs.Row.{is_timed_start, started};
+ghost use Rattle.node_tables.specs.declared.row.row.Start.{Start};
+ghost use Rattle.node_tables.specs.Row.Row.{is_timed_start, started};
 ghost use Rattle.sequence_table.specs.Makers.{makers_of};
 ghost use Rattle.sequence_table.specs.Told.{begun};
 ghost use Rattle.node_tables.specs.Kept.{is_timed_record, tolds};
@@ -14,7 +14,7 @@ ghost use Rattle.node_tables.specs.Room.{AreBegun, all_spares, all_timed, spare_
 use crate::note::Coming;
 use record_batch::Record;
 use rm_base::Memory;
-use sequence_row::{Row, Start};
+use crate::row::{Row, Start};
 use std::alloc::Global;
 
 /// How the first sequence begins that a record makes.

@@ -8,7 +8,7 @@ use crate::note::{Coming, Named, Note, Origin};
 use crate::record::named_by;
 use record_batch::Record;
 use rm_base::Memory;
-use sequence_row::Row;
+use crate::row::Row;
 
 /// Makes room for so many records in each list.
 pub(crate) fn make_room(

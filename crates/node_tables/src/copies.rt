@@ -13,7 +13,7 @@ ghost use Rattle.node_tables.specs.Kept.{tolds};
 use crate::note::Note;
 use record_batch::{Record, copy_acked, copy_purged, copy_received};
 use rm_base::{Memory, Payload};
-use sequence_row::Row;
+use crate::row::Row;
 use std::alloc::Global;
 
 /// Where the message with a number stands. Messages mostly come by rising number, so the place where it is expected is

@@ -1,4 +1,4 @@
-//! The sequences of a node, as its records tell of them. It stands on one sequence, `sequence_row`, and on what a list
+//! The sequences of a node, as its records tell of them. It stands on one sequence, `row`, and on what a list
 //! of records says, `sequence_table`.
 #![tactic(auto)]
 
@@ -20,3 +20,5 @@ pub use error::TableError;
 pub use maker::{Maker, maker_by};
 pub use peer::{Asked, Grant, Peer};
 pub use tables::Tables;
+
+pub mod row;

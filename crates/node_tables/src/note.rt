@@ -6,7 +6,7 @@ ghost use Rattle.node_tables.specs.Kept.{HasPlace, IsHeld, fact_at, is_passing};
 
 use ack_ranges::RangeSet;
 use record_batch::Record;
-use sequence_row::{Row, Start};
+use crate::row::{Row, Start};
 
 /// A record as it is kept: the place of a record that is kept whole; the row, counted from 0, and the number there of a
 /// message that was accepted or received, and whether it was the first that was received there; the numbers that are

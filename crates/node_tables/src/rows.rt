@@ -4,7 +4,7 @@ ghost use Rattle.std.specs.Prelude.{true, min, sum_by, vec_len, vec_capacity};
 ghost use Rattle.record_batch.specs.Fact.{Accepted, Acked, Received, fact_of};
 ghost use Rattle.rm_base.specs.Message.{max_number};
 ghost use Rattle.rm_destination.specs.Messages.{is_empty};
-ghost use Rattle.sequence_row.specs.Row.{Seen, step, takes, takes_message, takes_payload};
+ghost use Rattle.node_tables.specs.Row.Row.{Seen, step, takes, takes_message, takes_payload};
 ghost use Rattle.sequence_table.specs.Told.{each_after, names};
 ghost use Rattle.node_tables.specs.Kept.{accepted_count_in, all_forgotten, held_in, is_passing, is_whole, row_at};
 ghost use Rattle.node_tables.specs.Kept.{tolds};
@@ -16,7 +16,7 @@ use ack_ranges::RangeSet;
 use record_batch::Record;
 use rm_base::{Blob, Memory, Payload};
 use rm_source::OutPhase;
-use sequence_row::Row;
+use crate::row::Row;
 
 /// How many messages a row accepted.
 fn accepted_of(row: &Row) -> u64

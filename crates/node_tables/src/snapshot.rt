@@ -19,7 +19,7 @@ use crate::note::Note;
 use ack_ranges::{Range, RangeSet, ends_are_right, union_has_both, union_with_nothing_is_the_same};
 use record_batch::Record;
 use rm_base::{Memory, numbered};
-use sequence_row::Row;
+use crate::row::Row;
 use std::alloc::Global;
 
 /// The greatest number such that 1 to it are acknowledged of a sequence.

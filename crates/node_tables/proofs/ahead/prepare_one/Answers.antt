@@ -1,5 +1,5 @@
 use Rattle.std.proofs.Common.{◌∙◌, List, [], ◌∷◌, ◌++◌, sym, ap, subst}
-use Rattle.sequence_row.specs.Row.{Seen}
+use Rattle.node_tables.specs.Row.Row.{Seen}
 use Rattle.node_tables.specs.declared.note.Coming.{Coming}
 use Rattle.node_tables.specs.Room.{AreBegun}
 use Rattle.node_tables.proofs.AheadLemmas.{begun-more}

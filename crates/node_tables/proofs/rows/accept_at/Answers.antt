@@ -1,7 +1,7 @@
 use Rattle.std.proofs.Common.{ap, ◌∙◌, ◌+◌, refl, arith}
 use Rattle.record_batch.specs.Fact.{Accepted}
 use Rattle.node_tables.specs.Kept.{row_at, tolds}
-use Rattle.sequence_row.specs.Row.{is_sender}
+use Rattle.node_tables.specs.Row.Row.{is_sender}
 use Rattle.node_tables.proofs.RoomLemmas.{accepted-kind, same-spare, spares-spent}
 use Rattle.node_tables.proofs.StepLemmas.{rows-stepped, takes-accepted}
 use Rattle.node_tables.proofs.rows.accept_at.Goals as goal

@@ -1,6 +1,6 @@
 use Rattle.std.proofs.Common.{◌≡◌, ap, ◌∙◌, ◌+◌, ◌-◌, ◌<◌, ◌≤◌, length, sym, subst, arith, true, ℕ}
 use Rattle.record_batch.specs.Fact.{fact_of}
-use Rattle.sequence_row.specs.Row.{is_sender, takes}
+use Rattle.node_tables.specs.Row.Row.{is_sender, takes}
 use Rattle.sequence_table.specs.Told.{Told, names}
 use Rattle.node_tables.specs.Kept.{row_at, tolds}
 use Rattle.node_tables.proofs.RoomLemmas.{same-spare, spares-same, step-kind}

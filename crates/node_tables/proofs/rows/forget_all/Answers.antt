@@ -1,6 +1,6 @@
 use Rattle.std.proofs.Common.{◌∙◌, ap, arith}
 use Rattle.std.proofs.lemmas.List.{length-map}
-use Rattle.sequence_row.specs.Row.{Seen}
+use Rattle.node_tables.specs.Row.Row.{Seen}
 use Rattle.node_tables.proofs.ForgetLemmas.{forgot-all, forgot-next}
 use Rattle.node_tables.proofs.rows.forget_all.Goals as goal
 

@@ -1,9 +1,9 @@
 use Rattle.std.proofs.Common.{◌≡◌, ap, ◌∙◌, ◌+◌, refl, arith, subst, true}
 use Rattle.record_batch.specs.Fact.{Acked}
 use Rattle.sequence_table.specs.Told.{Told}
-use Rattle.sequence_row.specs.Row.{takes_acked}
+use Rattle.node_tables.specs.Row.Row.{takes_acked}
 use Rattle.node_tables.specs.Kept.{row_at, tolds}
-use Rattle.sequence_row.specs.Row.{is_sender}
+use Rattle.node_tables.specs.Row.Row.{is_sender}
 use Rattle.node_tables.proofs.RoomLemmas.{acked-kind, same-spare, spares-spent}
 use Rattle.node_tables.proofs.StepLemmas.{rows-stepped, row-at, takes-acked}
 use Rattle.node_tables.proofs.rows.learn_at.Goals as goal

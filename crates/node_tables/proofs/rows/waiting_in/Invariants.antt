@@ -1,6 +1,6 @@
 use Rattle.std.proofs.Common.{◌≡◌, min, take}
 use Rattle.std.specs.Prelude.{sum_by}
-use Rattle.sequence_row.specs.Row.{Seen}
+use Rattle.node_tables.specs.Row.Row.{Seen}
 use Rattle.node_tables.specs.Reads.{waiting}
 use Rattle.node_tables.proofs.rows.waiting_in.Given as goal
 

@@ -7,7 +7,7 @@ use Rattle.record_batch.specs.Fact.{fact_of}
 use Rattle.sequence_table.specs.Makers.{makers_of}
 use Rattle.sequence_table.specs.Fits.{fits}
 use Rattle.sequence_table.specs.Told.{Told, begun, each_after, names}
-use Rattle.sequence_row.specs.Row.{Seen, takes}
+use Rattle.node_tables.specs.Row.Row.{Seen, takes}
 use Rattle.node_tables.specs.declared.note.Note.{Note}
 use Rattle.node_tables.specs.declared.note.Note.TheVariants as note
 use Rattle.node_tables.specs.declared.note.Origin.{Origin}

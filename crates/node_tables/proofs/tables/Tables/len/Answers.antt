@@ -1,6 +1,6 @@
 use Rattle.std.proofs.Common.{◌∙◌, length, sym, ap, arith}
 use Rattle.std.proofs.lemmas.List.{length-map}
-use Rattle.sequence_row.specs.Row.{Seen}
+use Rattle.node_tables.specs.Row.Row.{Seen}
 use Rattle.sequence_table.specs.Makers.{makers}
 use Rattle.node_tables.specs.Kept.{Tabled}
 use Rattle.node_tables.proofs.CountLemmas.{rows-few}

@@ -7,7 +7,7 @@ use Rattle.std.proofs.lemmas.Result.{err_from_is_err_and}
 use Rattle.record_batch.specs.Fact.{fact_of}
 use Rattle.sequence_table.specs.Fits.{fits}
 use Rattle.sequence_table.specs.Told.{Told, names}
-use Rattle.sequence_row.specs.Row.{Seen, takes}
+use Rattle.node_tables.specs.Row.Row.{Seen, takes}
 use Rattle.node_tables.specs.declared.note.Note.{Note}
 use Rattle.node_tables.specs.Kept.{Tabled, records_of, row_at, tolds}
 use Rattle.node_tables.specs.Room.{NodeRoom, spares_ahead, starts_of}

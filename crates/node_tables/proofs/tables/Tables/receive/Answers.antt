@@ -3,7 +3,7 @@ use Rattle.std.proofs.Common.{subst, arith}
 use Rattle.std.proofs.lemmas.List.{length-map}
 use Rattle.record_batch.specs.Fact.{Received}
 use Rattle.sequence_table.specs.Fits.{fits}
-use Rattle.sequence_row.specs.Row.{Seen}
+use Rattle.node_tables.specs.Row.Row.{Seen}
 use Rattle.node_tables.specs.declared.note.Note.{Note}
 use Rattle.node_tables.specs.declared.note.Note.TheVariants as note
 use Rattle.node_tables.specs.Kept.{Tabled, row_at, tolds}

@@ -1,7 +1,7 @@
 use Rattle.std.proofs.Common.{◌∙◌, refl, ap}
 use Rattle.std.specs.Option.{option_map}
 use Rattle.rm_base.specs.Numbered.{numbered}
-use Rattle.sequence_row.specs.Row.{Seen}
+use Rattle.node_tables.specs.Row.Row.{Seen}
 use Rattle.node_tables.specs.Kept.{Tabled, told_in}
 use Rattle.node_tables.proofs.RowsLemmas.{row-seen}
 use Rattle.node_tables.proofs.tables.Tables.row.Goals as goal

@@ -1,6 +1,6 @@
 use Rattle.std.proofs.Common.{◌∙◌, length, map, refl, sym, ap, subst, arith}
 use Rattle.std.proofs.lemmas.List.{length-map}
-use Rattle.sequence_row.specs.Row.{Seen}
+use Rattle.node_tables.specs.Row.Row.{Seen}
 use Rattle.record_batch.specs.Fact.{fact_of}
 use Rattle.node_tables.specs.Copies.{MayBeCopied}
 use Rattle.node_tables.specs.Kept.{tolds}

@@ -1,6 +1,6 @@
 use Rattle.std.proofs.Common.{◌∙◌, ap, sym}
 use Rattle.std.specs.Prelude.{◌&&◌}
-use Rattle.sequence_row.specs.Row.{takes}
+use Rattle.node_tables.specs.Row.Row.{takes}
 use Rattle.node_tables.specs.Kept.{told_in}
 use Rattle.record_batch.specs.Fact.{fact_of}
 use Rattle.node_tables.proofs.RowsLemmas.{taken-by}

@@ -1,0 +1,3 @@
+-- The lemmas of `row`.
+pub mod GoneLemmas
+pub mod UpToLemmas

@@ -1,0 +1,4 @@
+-- The definitions of `row`.
+pub mod Row
+pub mod StepLemmas
+pub mod TakesLemmas

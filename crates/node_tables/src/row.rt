@@ -1,0 +1,8 @@
+//! One sequence of a node, as its tables keep it: a side that sends or one that receives, with the ticket of the last
+//! request for it. It stands on both sides, `rm_source` and `rm_destination`, and on what records say of a sequence,
+//! `sequence_table`.
+
+pub mod laws;
+pub mod row;
+
+pub use row::{Row, Start};

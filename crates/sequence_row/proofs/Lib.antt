@@ -1,2 +1,0 @@
-pub mod GoneLemmas
-pub mod UpToLemmas
