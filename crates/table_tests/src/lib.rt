@@ -9,3 +9,5 @@ mod readers;
 mod room;
 #[cfg(test)]
 mod snapshots;
+
+pub mod batch_tests;

@@ -1,6 +1,5 @@
 //! The tests of the bytes of records, and of what tables answer to records that don't fit. They stand apart, since a
 //! crate with tests is proved a second time with them.
-#![tactic(auto)]
 
 #[cfg(test)]
 mod kinds;

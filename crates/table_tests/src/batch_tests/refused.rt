@@ -1,5 +1,5 @@
 //! Bytes that are no batch, and records that don't fit.
-use crate::parts::{accepted, is_refused, uri};
+use crate::batch_tests::parts::{accepted, is_refused, uri};
 use node_tables::{TableError, Tables};
 use record_batch::Record;
 use std::test::Fail;

@@ -1,5 +1,5 @@
 //! The bytes of a batch of each kind of record.
-use crate::parts::{
+use crate::batch_tests::parts::{
     NEVER, accepted, acked, endpoint, ident, is_written, is_written_again, purged, received, uri,
 };
 use record_batch::{OwnOffer, PeerOffer, Record, Via, read_batch};
