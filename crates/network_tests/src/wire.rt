@@ -1,6 +1,6 @@
 //! Tests of a wire in memory.
 
-use rm_network::{MemWire, Wire};
+use rm_base::wire::{MemWire, Wire};
 use std::test::Fail;
 
 #[test]

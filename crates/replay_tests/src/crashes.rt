@@ -5,7 +5,7 @@ use crate::stage::events_of;
 use rm_base::Memory;
 use rm_disk::MemDisk;
 use rm_journal::Journal;
-use rm_network::{MemWire, Packet, Wire};
+use rm_base::wire::{MemWire, Packet, Wire};
 use rm_replay::{Stage, run_script};
 use std::test::Fail;
 

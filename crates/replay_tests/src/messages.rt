@@ -1,7 +1,7 @@
 //! The texts of packets. The reports of scripts are cases of the command `replay`.
 
 use crate::stage::{has, played_with_wire};
-use rm_network::Wire;
+use rm_base::wire::Wire;
 use std::test::Fail;
 
 /// Three messages, which all come in order, and their acknowledgements.

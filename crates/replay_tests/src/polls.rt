@@ -1,7 +1,7 @@
 //! The texts of what a node asks for that nobody can reach, and of what it is given.
 
 use crate::stage::played_with_wire;
-use rm_network::Wire;
+use rm_base::wire::Wire;
 use std::test::Fail;
 
 // Two messages of a node that is polled for, whose acknowledgements wait and are then given to it.

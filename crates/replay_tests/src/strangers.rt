@@ -2,7 +2,7 @@
 
 use crate::stage::{has, joined, played_with_wire};
 use rm_base::{Blob, Memory, push_hex};
-use rm_network::Wire;
+use rm_base::wire::Wire;
 use std::alloc::Global;
 use std::test::Fail;
 

@@ -12,3 +12,4 @@ pub mod Roomy
 pub mod StreamLemmas
 pub mod Text
 pub mod TextLemmas
+pub mod Wire

@@ -36,3 +36,7 @@ pub use outside::{Clock, Connection, Sink, SinkError, Source};
 pub use streams::{StdSink, StdSource};
 pub use text::{Ident, TextError, Uri, copy_optional_uri, uri_of};
 pub use transfer::{ReadError, read_up_to, write_all};
+
+pub mod words;
+
+pub mod wire;

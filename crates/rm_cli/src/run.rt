@@ -14,7 +14,7 @@ use rm_base::{Blob, Clock, Sink, Source};
 use rm_disk::{CrashDisk, Disk};
 use rm_host::{Host, is_of_node};
 use rm_link::Link;
-use rm_network::Wire;
+use rm_base::wire::Wire;
 use rm_replay::Stage;
 use std::alloc::Global;
 

@@ -16,7 +16,7 @@ use crate::soak::soak;
 use message_reader::laws::a_message_is_not_refused;
 use rm_base::{Blob, Sink, Source};
 use rm_disk::CrashDisk;
-use rm_network::Wire;
+use rm_base::wire::Wire;
 use rm_policy::laws::one_reading;
 use rm_replay::Stage;
 use rm_report::exits::USAGE_LINE;

@@ -11,7 +11,7 @@ use crate::filter::{read_input, write_text};
 use rm_base::limits::SCRIPT_BYTES;
 use rm_base::{Memory, Sink, Source};
 use rm_disk::CrashDisk;
-use rm_network::Wire;
+use rm_base::wire::Wire;
 use rm_replay::laws::a_delivered_message_is_taken;
 use rm_replay::{Stage, run_script};
 use rm_script::laws::values_are_within;

@@ -12,7 +12,7 @@ use crate::end::End;
 use crate::filter::write_text;
 use rm_base::{Memory, Sink};
 use rm_disk::CrashDisk;
-use rm_network::Wire;
+use rm_base::wire::Wire;
 use rm_replay::laws::a_delivered_message_is_taken;
 use rm_replay::{Stage, run_script};
 use rm_script::laws::{no_bad_line, values_are_within};

@@ -13,7 +13,7 @@ use crate::import::import;
 use crate::send::send;
 use crate::serve::serve;
 use crate::words::{Command, command_of};
-use program_words::{texts_given, words_behind};
+use rm_base::words::{texts_given, words_behind};
 use rm_base::{
     Blob, Clock, Memory, Sink, SinkError, Source, StdClock, StdSink, StdSource, write_all,
 };

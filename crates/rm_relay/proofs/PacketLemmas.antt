@@ -6,7 +6,7 @@ use Rattle.std.specs.List.{flat_map}
 use Rattle.std.proofs.lemmas.List.{map-append, take-map}
 use Rattle.std.proofs.lemmas.List.Concat.{flat_map-append}
 use Rattle.rm_message.specs.declared.message.Message.{Message}
-use Rattle.rm_network.specs.Wire.{has_room, texts_in}
+use Rattle.rm_base.specs.Wire.Wire.{has_room, texts_in}
 use Rattle.rm_protocol.specs.Terms.{Terms}
 use Rattle.rm_replay.specs.Net.{AreOfNet, text_of}
 use Rattle.rm_relay.specs.Word.World.{Packet, messages_in, number_of, packet_to, puts}

@@ -4,7 +4,7 @@ use Rattle.std.proofs.Common.{refl, sym, ap, subst}
 use Rattle.std.proofs.Math.Seq.{take-append-add}
 use Rattle.std.proofs.lemmas.List.{take-map}
 use Rattle.std.specs.Prelude.{Option, Some, None}
-use Rattle.rm_network.specs.Wire.{has_room, with_packet}
+use Rattle.rm_base.specs.Wire.Wire.{has_room, with_packet}
 use Rattle.rm_relay.specs.Putting.{Going, Net, IsPutInPart, with_all, with_any, with_one}
 use Rattle.rm_relay.specs.Word.World.{number_of}
 use Rattle.rm_relay.specs.declared.word.station.Station.{Station}

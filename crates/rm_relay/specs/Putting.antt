@@ -1,6 +1,6 @@
 -- What leaves a node is put on a wire of whose packets the senders are kept.
 use Rattle.std.specs.Prelude.{◌≡◌, ℕ, if◌then◌else◌, List, [], ◌∷◌, ◌++◌, map, length, take, Option, Some, None}
-use Rattle.rm_network.specs.Wire.{has_room}
+use Rattle.rm_base.specs.Wire.Wire.{has_room}
 use Rattle.rm_node.specs.declared.packets.Out.{Out}
 use Rattle.rm_replay.specs.Actor.Outcomes.{packets_in}
 use Rattle.rm_replay.specs.declared.actor.actor.Came.{Came}

@@ -28,7 +28,7 @@ use crate::word::Station;
 use rm_base::laws::texts_are_tested;
 use rm_base::{Lapse, Memory, TextError, Uri};
 use rm_disk::CrashDisk;
-use rm_network::Wire;
+use rm_base::wire::Wire;
 use rm_node::Call;
 use rm_report::Outcome;
 use rm_script::Side;

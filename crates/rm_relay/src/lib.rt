@@ -1,6 +1,6 @@
 //! A relay of three durable nodes: what the second one received from the first it forwards to the third, each item
 //! once, though all three may stop at any device call. It stands on one node of a script, `rm_replay::actor`, on scripts and
-//! reports of two nodes, of which it takes the parts that fit, and on wires, `rm_network`. The layer above may use
+//! reports of two nodes, of which it takes the parts that fit, and on wires, `rm_base::wire`. The layer above may use
 //! `relay_run` by the definitions of `specs/`, and `forward` and `trim` over any node.
 #![tactic(auto)]
 

@@ -16,7 +16,7 @@ use crate::wire::Senders;
 use rm_replay::actor::laws::each_image_is_left;
 use rm_base::{Blob, Memory};
 use rm_disk::CrashDisk;
-use rm_network::Wire;
+use rm_base::wire::Wire;
 use rm_replay::laws::there_are_nets;
 use std::alloc::Global;
 

@@ -17,7 +17,7 @@ use rm_base::{Memory, Sink, Source};
 use rm_command::end::{End, refuse_line};
 use rm_command::filter::{read_input, write_text};
 use rm_disk::CrashDisk;
-use rm_network::Wire;
+use rm_base::wire::Wire;
 use rm_script::ScriptError;
 use std::alloc::Global;
 

@@ -20,7 +20,7 @@ use rm_replay::actor::laws::each_image_is_left;
 use crate::word::Station;
 use rm_base::{Blob, Memory};
 use rm_disk::CrashDisk;
-use rm_network::Wire;
+use rm_base::wire::Wire;
 use rm_replay::laws::there_are_nets;
 use rm_replay::run::push_known;
 use std::alloc::Global;

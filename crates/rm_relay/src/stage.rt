@@ -2,7 +2,7 @@
 
 use rm_replay::actor::Actor;
 use rm_disk::CrashDisk;
-use rm_network::Wire;
+use rm_base::wire::Wire;
 
 /// The disks of three nodes, and the wire between them.
 #[derive(Debug, Drop)]

@@ -8,7 +8,7 @@ use rm_replay::actor::Came;
 use node_messages::is_anonymous;
 use crate::word::Station;
 use rm_base::{Blob, Memory};
-use rm_network::Wire;
+use rm_base::wire::Wire;
 use rm_node::Out;
 use rm_report::Outcome;
 use std::alloc::Global;

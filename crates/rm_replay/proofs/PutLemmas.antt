@@ -10,7 +10,7 @@ use Rattle.rm_node.specs.declared.packets.Out.{Out}
 use Rattle.rm_protocol.specs.Terms.{Terms}
 use Rattle.rm_protocol.specs.Word.{IsPrefixOf}
 use Rattle.rm_protocol.specs.World.{Packet, Side, messages_in, other, puts, sent}
-use Rattle.rm_network.specs.Wire.{has_room, texts_in, with_packet}
+use Rattle.rm_base.specs.Wire.Wire.{has_room, texts_in, with_packet}
 use Rattle.rm_replay.specs.Actor.Outcomes.{back_packet}
 use Rattle.rm_replay.specs.AllLemmas.{all_push, prefix_then}
 use Rattle.rm_replay.specs.Asked.{bytes_of}

@@ -11,7 +11,7 @@ use Rattle.rm_report.specs.declared.line.Outcome.{Outcome}
 use Rattle.rm_script.specs.declared.event.Event.{Event as Said}
 use Rattle.rm_script.specs.declared.event.Event.TheVariants as said
 use Rattle.rm_script.specs.declared.event.Side.{Side as Place}
-use Rattle.rm_network.specs.Wire.{with_packet}
+use Rattle.rm_base.specs.Wire.Wire.{with_packet}
 use Rattle.rm_replay.specs.Actor.Outcomes.{call_told, is_disk_outcome}
 use Rattle.rm_replay.specs.Actor.Stands.{Leaves}
 use Rattle.rm_replay.specs.Asked.{Step, WereAsked}

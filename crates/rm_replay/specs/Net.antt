@@ -10,7 +10,7 @@ use Rattle.rm_message.specs.declared.refusal.Refusal.{Refusal}
 use Rattle.rm_protocol.specs.Terms.{Terms}
 use Rattle.rm_protocol.specs.World.{Packet, Side, One, Two, other}
 use Rattle.node_laws.specs.OwnTerms.{AreOwn}
-use Rattle.rm_network.specs.Wire.{has_room, texts_in}
+use Rattle.rm_base.specs.Wire.Wire.{has_room, texts_in}
 
 -- the text of a message
 abbrev pub text_of : Message → List ℕ

@@ -12,7 +12,7 @@ use Rattle.rm_message.specs.declared.refusal.Refusal.{Refusal}
 use Rattle.rm_protocol.specs.Terms.{AreTerms, Terms}
 use Rattle.rm_protocol.specs.World.{AreMade}
 use Rattle.node_laws.specs.OwnTerms.{OwnAreTerms, ThereAreOwnTerms}
-use Rattle.rm_network.specs.Wire.{has_room, texts_in}
+use Rattle.rm_base.specs.Wire.Wire.{has_room, texts_in}
 use Rattle.rm_replay.specs.Net.{AreOfNet, read_as, text_of}
 use Rattle.rm_replay.specs.Shows.{address_one, address_two}
 

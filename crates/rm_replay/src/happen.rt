@@ -27,7 +27,7 @@ use rm_base::laws::texts_are_tested;
 use rm_base::{Behaviour, Blob, Lapse, Memory, TextError, Uri};
 use rm_disk::CrashDisk;
 use rm_message::DecodeError;
-use rm_network::Wire;
+use rm_base::wire::Wire;
 use rm_node::Call;
 use rm_report::Outcome;
 use rm_script::{Event, Side};

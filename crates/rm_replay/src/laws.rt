@@ -14,7 +14,7 @@ ghost use Rattle.rm_replay.specs.Unarmed.{ArmsNone, TellsCalm};
 ghost use Rattle.std.specs.List.{AllByRecursion};
 
 use node_laws::laws::{own_terms_are_terms, there_are_own_terms};
-use rm_network::laws::room_goes_by_the_bytes;
+use rm_base::wire::laws::room_goes_by_the_bytes;
 use rm_protocol::laws::{
     a_delivered_message_is_taken as a_message_is_taken, a_run_goes_on, accepted_is_sent,
     every_run_keeps_the_word, without_an_arm_nothing_fails,

@@ -15,7 +15,7 @@ use crate::stage::{Nodes, Stage};
 use crate::actor::laws::each_image_is_left;
 use rm_base::{Blob, Memory};
 use rm_disk::CrashDisk;
-use rm_network::Wire;
+use rm_base::wire::Wire;
 use rm_report::{Line, push_lines};
 use rm_script::Event;
 use std::alloc::Global;

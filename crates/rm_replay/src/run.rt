@@ -21,7 +21,7 @@ use crate::actor::laws::each_image_is_left;
 use crate::summary::push_node;
 use rm_base::{Blob, Memory};
 use rm_disk::CrashDisk;
-use rm_network::Wire;
+use rm_base::wire::Wire;
 use rm_report::push_down;
 use rm_script::{Event, Side};
 use std::alloc::Global;

@@ -2,7 +2,7 @@
 
 use crate::actor::Actor;
 use rm_disk::CrashDisk;
-use rm_network::Wire;
+use rm_base::wire::Wire;
 
 /// The disks of two nodes, and the wire between them.
 #[derive(Debug, Drop)]

@@ -6,7 +6,7 @@ ghost use Rattle.rm_replay.specs.Happening.{IsPutInPart, with_all};
 
 use crate::actor::Came;
 use rm_base::{Blob, Memory};
-use rm_network::Wire;
+use rm_base::wire::Wire;
 use rm_node::Out;
 use rm_report::Outcome;
 

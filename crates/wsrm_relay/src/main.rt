@@ -3,7 +3,7 @@
 
 use rm_base::{StdSink, StdSource};
 use rm_disk::MemDisk;
-use rm_network::MemWire;
+use rm_base::wire::MemWire;
 use rm_relay::{Stage3, relay_run};
 use std::process::ExitCode;
 

@@ -6,7 +6,7 @@ use rm_base::{Blob, Items, MemSink, MemSource, Memory, Numbers, Sink, SinkError}
 use rm_command::run;
 use rm_disk::MemDisk;
 use rm_journal::{Journal, JournalError};
-use rm_network::{MemWire, Packet, Wire};
+use rm_base::wire::{MemWire, Packet, Wire};
 use rm_replay::Stage;
 use std::alloc::Global;
 use std::test::Fail;

@@ -3,7 +3,7 @@
 
 use crate::relay_tests::stage::events_of;
 use rm_disk::MemDisk;
-use rm_network::MemWire;
+use rm_base::wire::MemWire;
 use rm_node::{Node, NodeError, Out};
 use rm_relay::run::run_relay;
 use rm_relay::{Stage3, forward, may_forward, trim};

@@ -1,7 +1,7 @@
 use Rattle.std.proofs.Common.{◌≡◌, ◌∙◌, ◌+◌, ◌∷◌, ◌++◌, List, ℕ, take, sym, ap, arith, []}
 use Rattle.std.proofs.lemmas.List.{take_more}
 use Rattle.rm_node.specs.declared.packets.Out.{Out}
-use Rattle.rm_network.specs.Wire.{with_packet}
+use Rattle.rm_base.specs.Wire.Wire.{with_packet}
 use Rattle.rm_replay.specs.Happening.{with_all}
 use Rattle.rm_replay.proofs.PutLemmas.{with_all_push}
 use Rattle.rm_replay.proofs.wire.put_all.Goals as goal

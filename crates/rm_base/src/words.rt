@@ -1,9 +1,8 @@
 //! The words that a program was given. It stands on `rm_base` alone; each program that takes words uses it.
-#![tactic(auto)]
 
 ghost use Rattle.std.specs.Prelude.{◌≡◌, drop};
 
-use rm_base::{Blob, Items, Memory};
+use crate::{Blob, Items, Memory};
 use std::alloc::Global;
 use std::env;
 use std::io::ErrorKind;

@@ -2,8 +2,8 @@ use Rattle.std.proofs.Common.{◌≡◌, ℕ, ◌+◌, ◌&&◌, nat_lt, nat_le,
 use Rattle.std.proofs.lemmas.List.{length-map}
 use Rattle.std.proofs.lemmas.List.Sums.{sum-map}
 use Rattle.std.proofs.lemmas.Simd.{map-map}
-use Rattle.rm_network.specs.Wire.{bytes_in, has_room, texts_in}
-use Rattle.rm_network.proofs.laws.room_goes_by_the_bytes.Goals as goal
+use Rattle.rm_base.specs.Wire.Wire.{bytes_in, has_room, texts_in}
+use Rattle.rm_base.proofs.wire.laws.room_goes_by_the_bytes.Goals as goal
 
 -- there is room for so many bytes behind these texts
 abbrev room_of : List (List ℕ) → ℕ → Bool

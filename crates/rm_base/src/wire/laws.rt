@@ -1,7 +1,7 @@
 //! Laws of wires.
 
 ghost use Rattle.std.specs.Prelude.{◌≡◌, ℕ, List};
-ghost use Rattle.rm_network.specs.Wire.{has_room, texts_in};
+ghost use Rattle.rm_base.specs.Wire.Wire.{has_room, texts_in};
 
 /// Whether there is room goes by the bytes of the packets, and not by where they go.
 pub fn room_goes_by_the_bytes()

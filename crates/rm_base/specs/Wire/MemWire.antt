@@ -2,8 +2,8 @@
 use Rattle.std.specs.Prelude.{◌≡◌, ℕ, ◌≤◌, List, map, length, slice_range}
 use Rattle.std.specs.List.{AllByRecursion}
 use Rattle.rm_base.specs.Limits.{most_packets}
-use Rattle.rm_network.specs.Wire.{bytes_in}
-use Rattle.rm_network.specs.declared.mem.Place.{Place}
+use Rattle.rm_base.specs.Wire.Wire.{bytes_in}
+use Rattle.rm_base.specs.declared.wire.mem.Place.{Place}
 
 -- the packet whose bytes are at this place among those of all packets
 abbrev pub packet_at : List ℕ → Place → ℕ × List ℕ

@@ -1,11 +1,11 @@
 //! A wire in memory.
 
 ghost use Rattle.std.specs.Prelude.{◌≡◌, [], IsTrue, ◌↔◌, true};
-ghost use Rattle.rm_network.specs.Wire.{has_room};
+ghost use Rattle.rm_base.specs.Wire.Wire.{has_room};
 
-use crate::wire::{Packet, Wire};
-use rm_base::Memory;
-use rm_base::limits::MOST_PACKETS;
+use crate::wire::wire::{Packet, Wire};
+use crate::Memory;
+use crate::limits::MOST_PACKETS;
 use std::alloc::Global;
 use std::marker::Model;
 
@@ -32,7 +32,7 @@ impl Model for MemWire {
 
     ghost Value = { List (ℕ × List ℕ) };
 
-    ghost use Rattle.rm_network.specs.MemWire.{packets_at, AreStored};
+    ghost use Rattle.rm_base.specs.Wire.MemWire.{packets_at, AreStored};
 
     ghost view = { λ w. packets_at w.bytes.items w.places.items };
 

@@ -1,7 +1,7 @@
 use Rattle.std.proofs.Common.{◌≡◌, ◌∙◌, length, ap, arith}
-use Rattle.rm_network.specs.Wire.{with_packet}
-use Rattle.rm_network.proofs.MemLemmas.{put-stored, put-packets}
-use Rattle.rm_network.proofs.mem.MemWireWire.put.Goals as goal
+use Rattle.rm_base.specs.Wire.Wire.{with_packet}
+use Rattle.rm_base.proofs.WireLemmas.MemLemmas.{put-stored, put-packets}
+use Rattle.rm_base.proofs.wire.mem.MemWireWire.put.Goals as goal
 
 pub invariant_of-self-2 : goal.invariant_of-self-2
 invariant_of-self-2 c =

@@ -3,9 +3,9 @@
 ghost use Rattle.std.specs.Prelude.{◌≡◌, ℕ, List, length, IfOk, OnOk, OnErr};
 ghost use Rattle.std.specs.Option.{option_map};
 ghost use Rattle.rm_base.specs.Numbered.{numbered};
-ghost use Rattle.rm_network.specs.Wire.{contents, has_room, with_packet};
+ghost use Rattle.rm_base.specs.Wire.Wire.{contents, has_room, with_packet};
 
-use rm_base::Memory;
+use crate::Memory;
 
 /// A packet on a wire.
 #[derive(Clone, Copy, Debug)]

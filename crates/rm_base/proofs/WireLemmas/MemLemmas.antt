@@ -7,9 +7,9 @@ use Rattle.std.proofs.lemmas.Bool.Decides.{nat_tests}
 use Rattle.std.proofs.lemmas.List.{take-append-le, drop-append-le, take_all, map-append, length-map}
 use Rattle.std.proofs.lemmas.List.Sums.{sum_by-append}
 use Rattle.std.proofs.Math.Seq.{drop-append_seam}
-use Rattle.rm_network.specs.Wire.{bytes_in, has_room, with_packet}
-use Rattle.rm_network.specs.MemWire.{packet_at, packets_at, IsWithin, AreStored}
-use Rattle.rm_network.specs.declared.mem.Place.{Place}
+use Rattle.rm_base.specs.Wire.Wire.{bytes_in, has_room, with_packet}
+use Rattle.rm_base.specs.Wire.MemWire.{packet_at, packets_at, IsWithin, AreStored}
+use Rattle.rm_base.specs.declared.wire.mem.Place.{Place}
 
 -- a part of what stands before more bytes
 slice_range-append : (xs ys : List ℕ) (i j : ℕ) → i ≤ j → j ≤ length xs

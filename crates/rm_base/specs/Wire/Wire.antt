@@ -3,7 +3,7 @@ use Rattle.std.specs.Prelude.{ℕ, ◌+◌, ◌&&◌, nat_lt, nat_le, Bool, if�
 use Rattle.std.specs.Prelude.{length}
 use Rattle.std.specs.List.{sum_by}
 use Rattle.rm_base.specs.Limits.{most_packets}
-use Rattle.rm_network.specs.declared.wire.Packet.{Packet}
+use Rattle.rm_base.specs.declared.wire.wire.Packet.{Packet}
 
 -- where a packet goes, and its bytes
 abbrev pub contents : Packet → ℕ × List ℕ

@@ -1,0 +1,2 @@
+-- The lemmas of `wire`.
+pub mod MemLemmas

@@ -1,0 +1,3 @@
+-- The definitions of `wire`.
+pub mod MemWire
+pub mod Wire

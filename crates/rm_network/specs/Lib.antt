@@ -1,2 +1,0 @@
-pub mod MemWire
-pub mod Wire
