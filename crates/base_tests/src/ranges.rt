@@ -1,5 +1,5 @@
 //! Tests of ack_ranges.
-use ack_ranges::RangeSet;
+use rm_sides::ranges::RangeSet;
 use rm_base::{MAX_NUMBER, Memory};
 use std::alloc::Global;
 use std::test::Fail;

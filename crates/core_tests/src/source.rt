@@ -1,8 +1,8 @@
 //! Tests of rm_source. What a test does stands in a helper that answers a plain value, since a test with many steps is
 //! slow to prove.
-use ack_ranges::{Range, RangeSet};
+use rm_sides::ranges::{Range, RangeSet};
 use rm_base::{Blob, MAX_NUMBER, Memory};
-use rm_source::{OutPhase, Outgoing, SourceError};
+use rm_sides::source::{OutPhase, Outgoing, SourceError};
 use std::alloc::Global;
 use std::test::Fail;
 

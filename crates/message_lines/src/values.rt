@@ -4,7 +4,7 @@ ghost use Rattle.hex.specs.Hex.{upper_digits};
 ghost use Rattle.message_lines.specs.Lines.{is_plain, escaped_byte, escaped, text_line, bool_text};
 ghost use Rattle.message_lines.specs.Lines.{range_text, ranges_text, numbers_text, kind_text, final_text};
 
-use ack_ranges::Range;
+use rm_sides::ranges::Range;
 use rm_base::{Blob, Memory, push_decimal};
 use rm_elements::AckKind;
 

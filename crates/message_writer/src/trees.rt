@@ -15,7 +15,7 @@ ghost use Rattle.rm_elements.specs.Outcome.{rm};
 ghost use Rattle.rm_elements.specs.Texts.{r, range_node, nack_node, kind_nodes, final_nodes};
 ghost use Rattle.message_writer.specs.Faults.{ident_element, max_element, ack_element};
 
-use ack_ranges::Range;
+use rm_sides::ranges::Range;
 use itoa::Buffer;
 use rm_base::{Bytes, Ident, Memory};
 use rm_elements::{AckBlock, AckKind, MESSAGING};

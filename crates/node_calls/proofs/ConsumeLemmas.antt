@@ -6,7 +6,7 @@ use Rattle.std.proofs.lemmas.Bool.Decides.{nat_tests}
 use Rattle.node_laws.specs.Sizes.Size.{batch_size}
 use Rattle.record_batch.specs.Batch.{batch_text}
 use Rattle.record_batch.specs.Fact.{Fact, Consumed}
-use Rattle.rm_destination.specs.Incoming.{Receiving}
+use Rattle.rm_sides.specs.Destination.Incoming.{Receiving}
 use Rattle.sequence_table.specs.Destinations.{cursor, inbox}
 use Rattle.sequence_table.specs.Makers.{Maker, Incoming, Offered}
 use Rattle.sequence_table.specs.Told.{receiving}

@@ -12,7 +12,7 @@ use Rattle.sequence_table.specs.Makers.{Maker, Outgoing, Offered, Incoming, Take
 use Rattle.sequence_table.specs.Sources.{accepted, accepted_of, dropped, dropped_of, out_ident, phase, ticket_of}
 use Rattle.sequence_table.specs.Sources.{tickets}
 use Rattle.sequence_table.specs.Find.{peer}
-use Rattle.rm_destination.specs.Incoming.{is_past}
+use Rattle.rm_sides.specs.Destination.Incoming.{is_past}
 use Rattle.sequence_table.specs.Destinations.{deadline_of, has_end, is_over}
 use Rattle.rm_message.specs.declared.message.Message.{Message}
 use Rattle.rm_protocol.specs.Calls.{Answer, Done, NotOpen, adds, ask_ack, ask_out, ask_to, expired_from, made_by}

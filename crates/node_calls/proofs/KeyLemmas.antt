@@ -14,8 +14,8 @@ use Rattle.rm_protocol.specs.Calls.{message_at}
 use Rattle.rm_protocol.specs.Messages.{create_request, data_at, data_by, finish_request, offer_by, request_at}
 use Rattle.rm_protocol.specs.Messages.{request_by}
 use Rattle.rm_elements.specs.declared.lifecycle.Lifecycle.TheVariants as life
-use Rattle.rm_source.specs.declared.phase.OutPhase.{OutPhase}
-use Rattle.rm_source.specs.declared.phase.OutPhase.TheVariants as out
+use Rattle.rm_sides.specs.declared.source.phase.OutPhase.{OutPhase}
+use Rattle.rm_sides.specs.declared.source.phase.OutPhase.TheVariants as out
 use Rattle.wsa_headers.specs.declared.endpoint.Epr.{Epr}
 use Rattle.node_laws.specs.Records.{BeginsWithMade}
 use Rattle.rm_base.specs.declared.message.Behaviour.{Behaviour}
@@ -27,7 +27,7 @@ use Rattle.record_batch.specs.declared.record.Via.{Via}
 use Rattle.node_messages.specs.Requests.{IsSmall, create_with, offer_with}
 use Rattle.sequence_table.specs.Find.{peer, peer_of}
 use Rattle.node_tables.specs.Reads.{outgoing_in, outgoing_of, ticket_in, ticket_of}
-use Rattle.rm_source.specs.Outgoing.{Sending, payload_at as payload_known}
+use Rattle.rm_sides.specs.Source.Outgoing.{Sending, payload_at as payload_known}
 use Rattle.sequence_table.specs.Told.{first_ticket, last_onto, sending}
 use Rattle.node_calls.specs.Records.{IsEnding, is_finishing}
 use Rattle.node_calls.proofs.DrawnLemmas.{drawn_for, maker-drawn}

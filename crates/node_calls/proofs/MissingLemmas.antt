@@ -3,12 +3,12 @@ use Rattle.std.proofs.Common.{◌≡◌, ℕ, zero, suc, ◌+◌, ◌-◌, ◌<�
 use Rattle.std.proofs.Common.{List, [], ◌∷◌, length, refl, sym, ap, subst, ◌∙◌, arith, inl, inr}
 use Rattle.std.specs.Prelude.{not, filter, take, Option, Some, None, Result, Ok, Err, IfOk}
 use Rattle.std.proofs.lemmas.Bool.{cases_lt, eq-eqb, eqb-true, or_cases, or_left, or_right, false≢true}
-use Rattle.ack_ranges.specs.declared.range.Range.{Range}
-use Rattle.ack_ranges.specs.Ranges.{AreMissing, in_ranges, greatest_of}
+use Rattle.rm_sides.specs.declared.ranges.range.Range.{Range}
+use Rattle.rm_sides.specs.Ranges.Ranges.{AreMissing, in_ranges, greatest_of}
 use Rattle.rm_base.specs.NumberSet.{Rises, has_number, greatest_of as greatest_number}
 use Rattle.rm_base.specs.declared.failures.Memory.{Memory}
 use Rattle.record_batch.specs.Fact.{Fact}
-use Rattle.rm_destination.specs.Messages.{ranges_onto}
+use Rattle.rm_sides.specs.Destination.Messages.{ranges_onto}
 use Rattle.sequence_table.specs.Destinations.{held}
 use Rattle.sequence_table.specs.Fits.{is_incoming_side}
 use Rattle.sequence_table.specs.Makers.{Maker, Offered, Incoming, maker}

@@ -9,9 +9,9 @@ use Rattle.rm_base.specs.Numbered.{numbered}
 use Rattle.rm_base.specs.declared.lapse.Lapse.{Lapse}
 use Rattle.rm_elements.specs.declared.lifecycle.Lifecycle.TheVariants as life
 use Rattle.rm_elements.specs.declared.lifecycle.Offer.{Offer}
-use Rattle.rm_source.specs.declared.phase.OutPhase.{OutPhase}
-use Rattle.rm_source.specs.declared.phase.OutPhase.TheVariants as out
-use Rattle.rm_source.specs.Outgoing.{Sending}
+use Rattle.rm_sides.specs.declared.source.phase.OutPhase.{OutPhase}
+use Rattle.rm_sides.specs.declared.source.phase.OutPhase.TheVariants as out
+use Rattle.rm_sides.specs.Source.Outgoing.{Sending}
 use Rattle.record_batch.specs.declared.record.OwnOffer.{OwnOffer}
 use Rattle.record_batch.specs.declared.record.Via.{Via}
 use Rattle.record_batch.specs.Fact.{Fact, Creating, Accepted, Closing, Ending}

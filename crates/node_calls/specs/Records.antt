@@ -1,7 +1,7 @@
 -- What the records of a node give to its calls.
 use Rattle.std.specs.Prelude.{◌≡◌, ℕ, ◌<◌, ◌^◌, Bool, true, false, List, []}
-use Rattle.rm_source.specs.declared.phase.OutPhase.{OutPhase}
-use Rattle.rm_source.specs.declared.phase.OutPhase.TheVariants as out
+use Rattle.rm_sides.specs.declared.source.phase.OutPhase.{OutPhase}
+use Rattle.rm_sides.specs.declared.source.phase.OutPhase.TheVariants as out
 use Rattle.record_batch.specs.Fact.{Fact, Ended}
 use Rattle.sequence_table.specs.Fits.{all_fit}
 use Rattle.sequence_table.specs.Makers.{counter}

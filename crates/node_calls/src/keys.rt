@@ -4,7 +4,7 @@ ghost use Rattle.std.specs.Prelude.{OnOk};
 ghost use Rattle.std.specs.List.{AllByRecursion};
 ghost use Rattle.std.specs.Option.{option_copied, option_to_list};
 ghost use Rattle.record_batch.specs.declared.record.Via.{Via as SpecVia};
-ghost use Rattle.rm_source.specs.declared.phase.OutPhase.TheVariants.{Closing, Ending};
+ghost use Rattle.rm_sides.specs.declared.source.phase.OutPhase.TheVariants.{Closing, Ending};
 ghost use Rattle.rm_protocol.specs.Calls.{message_at as message_at_key, messages_at as messages_at_keys};
 ghost use Rattle.rm_protocol.specs.Messages.{
   create_request as create_request_of,
@@ -31,7 +31,7 @@ use receive_replies::home;
 use record_batch::OwnOffer;
 use rm_base::{Blob, Ident, Memory};
 use rm_message::Message;
-use rm_source::OutPhase;
+use rm_sides::source::OutPhase;
 use rm_timers::Key;
 use std::alloc::Global;
 use tables_ahead::Known;

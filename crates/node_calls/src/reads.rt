@@ -10,7 +10,7 @@ ghost use Rattle.node_calls.specs.Causes.{side_cause};
 
 use node_laws::answers::Cause;
 use node_tables::{Maker, Tables};
-use rm_source::OutPhase;
+use rm_sides::source::OutPhase;
 use std::alloc::Global;
 use tables_ahead::Known;
 

@@ -5,7 +5,7 @@ use Rattle.std.specs.Prelude.{◌&&◌, not, nat_le, nat_lt, IfSome, Result, Ok,
 use Rattle.std.specs.List.{AllByRecursion}
 use Rattle.std.specs.Option.{option_to_list}
 use Rattle.std.proofs.lemmas.Bool.Decides.{nat_tests}
-use Rattle.ack_ranges.specs.Laws.{RangeIsAdded}
+use Rattle.rm_sides.specs.Ranges.Laws.{RangeIsAdded}
 use Rattle.rm_base.specs.Limits.{most_sequences, most_unacked, payload_bytes, window}
 use Rattle.rm_base.specs.Message.{max_number}
 use Rattle.rm_base.specs.Text.{IsText}
@@ -38,7 +38,7 @@ use Rattle.sequence_table.specs.Makers.{Maker, Outgoing, Offered, Incoming, Take
 use Rattle.sequence_table.specs.Makers.{counter}
 use Rattle.sequence_table.specs.Makers.{number}
 use Rattle.sequence_table.specs.Sources.{accepted_count, out_ident, phase, unacked, all_unacked}
-use Rattle.rm_destination.specs.Incoming.{is_past}
+use Rattle.rm_sides.specs.Destination.Incoming.{is_past}
 use Rattle.sequence_table.specs.Destinations.{cursor, has_end, inbox, is_over, deadline_of}
 use Rattle.node_laws.proofs.Lists.{All-append}
 use Rattle.rm_protocol.specs.Calls.{adds_and_moves, message_at, messages_at, ticked}

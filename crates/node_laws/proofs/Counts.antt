@@ -4,10 +4,10 @@ use Rattle.std.specs.Prelude.{nat_lt}
 use Rattle.std.specs.List.{AllByRecursion}
 use Rattle.std.proofs.lemmas.Bool.Decides.{nat_tests}
 use Rattle.std.proofs.lemmas.List.Sums.{sum_by-cons}
-use Rattle.ack_ranges.specs.declared.range.Range.{Range}
-use Rattle.ack_ranges.specs.Changes.{with_range, united}
-use Rattle.ack_ranges.specs.Laws.{RangeIsAdded}
-use Rattle.ack_ranges.specs.Ranges.{RisesFrom, IsCanonical, size_of, count_of}
+use Rattle.rm_sides.specs.declared.ranges.range.Range.{Range}
+use Rattle.rm_sides.specs.Ranges.Changes.{with_range, united}
+use Rattle.rm_sides.specs.Ranges.Laws.{RangeIsAdded}
+use Rattle.rm_sides.specs.Ranges.Ranges.{RisesFrom, IsCanonical, size_of, count_of}
 use Rattle.rm_base.specs.Message.{max_number}
 
 -- a range from lower to upper

@@ -5,7 +5,7 @@ use Rattle.std.proofs.Common.{length-append}
 use Rattle.std.specs.Prelude.{nat_lt}
 use Rattle.std.proofs.lemmas.Bool.{and_parts, eqb-true, le-leb, lt-ltb}
 use Rattle.rm_base.specs.Limits.{most_sequences, most_unacked, window}
-use Rattle.ack_ranges.specs.Laws.{RangeIsAdded}
+use Rattle.rm_sides.specs.Ranges.Laws.{RangeIsAdded}
 use Rattle.record_batch.specs.Fact.{Fact, Made, Accepted}
 use Rattle.sequence_table.specs.Makers.{makers, makers_of, maker}
 use Rattle.sequence_table.specs.Sources.{accepted_of, unacked, all_unacked}

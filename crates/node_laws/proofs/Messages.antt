@@ -21,8 +21,8 @@ use Rattle.rm_message.specs.Actions.{create_sequence, create_sequence_response, 
 use Rattle.rm_message.specs.Actions.{close_sequence_response, terminate_sequence, terminate_sequence_response}
 use Rattle.rm_message.specs.Actions.{ack_requested, make_connection, sequence_acknowledgement}
 use Rattle.rm_message.specs.declared.message.Message.{Message}
-use Rattle.rm_source.specs.declared.phase.OutPhase.{OutPhase}
-use Rattle.rm_source.specs.declared.phase.OutPhase.TheVariants as out
+use Rattle.rm_sides.specs.declared.source.phase.OutPhase.{OutPhase}
+use Rattle.rm_sides.specs.declared.source.phase.OutPhase.TheVariants as out
 use Rattle.soap_lex.specs.Facts.{equal}
 use Rattle.soap_frame.specs.Framed.{sorted_scope}
 use Rattle.soap_profile.specs.Payload.{IsClosedContent}

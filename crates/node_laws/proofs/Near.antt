@@ -11,10 +11,10 @@ use Rattle.rm_base.specs.Limits.{window}
 use Rattle.rm_base.specs.Numbered.{numbered}
 use Rattle.rm_base.specs.NumberSet.{has_number}
 use Rattle.rm_base.specs.declared.message.Payload.{Payload}
-use Rattle.ack_ranges.specs.declared.range.Range.{Range}
+use Rattle.rm_sides.specs.declared.ranges.range.Range.{Range}
 use Rattle.record_batch.specs.Fact.{Fact, Dropped, Purged, Received}
-use Rattle.rm_destination.specs.Messages.{gone_items, items_of, numbers_in, numbers_of, sorted_onto, there_items}
-use Rattle.rm_destination.specs.Messages.{with_message, without_gap}
+use Rattle.rm_sides.specs.Destination.Messages.{gone_items, items_of, numbers_in, numbers_of, sorted_onto, there_items}
+use Rattle.rm_sides.specs.Destination.Messages.{with_message, without_gap}
 use Rattle.sequence_table.specs.Makers.{Maker, makers, makers_of, maker}
 use Rattle.sequence_table.specs.Destinations.{front, held, items, messages, purged, purged_of, received, received_of}
 use Rattle.sequence_table.specs.Sources.{dropped_of}

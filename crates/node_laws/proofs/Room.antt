@@ -8,12 +8,12 @@ use Rattle.std.proofs.lemmas.Bool.{and_parts}
 use Rattle.std.proofs.lemmas.Bool.Decides.{nat_tests}
 use Rattle.std.proofs.lemmas.List.Elements.{filter-append}
 use Rattle.std.proofs.lemmas.List.Sums.{sum_by-cons}
-use Rattle.ack_ranges.specs.declared.range.Range.{Range}
-use Rattle.ack_ranges.specs.Ranges.{RisesFrom, IsCanonical, in_range, in_ranges, count_of, size_of}
-use Rattle.rm_source.specs.Outgoing.{Sending, accepted_count as count_in}
+use Rattle.rm_sides.specs.declared.ranges.range.Range.{Range}
+use Rattle.rm_sides.specs.Ranges.Ranges.{RisesFrom, IsCanonical, in_range, in_ranges, count_of, size_of}
+use Rattle.rm_sides.specs.Source.Outgoing.{Sending, accepted_count as count_in}
 use Rattle.record_batch.specs.Fact.{Fact}
 use Rattle.rm_base.specs.Numbered.{numbered}
-use Rattle.ack_ranges.specs.Laws.{RangeIsAdded}
+use Rattle.rm_sides.specs.Ranges.Laws.{RangeIsAdded}
 use Rattle.rm_protocol.specs.Exact.{AckedWereAccepted}
 use Rattle.sequence_table.specs.Makers.{Maker, Outgoing, Offered, Incoming, Taken, makers, maker}
 use Rattle.sequence_table.specs.Sources.{accepted_count, acked, is_sending, unacked_at, unacked_from}

@@ -5,11 +5,11 @@ use Rattle.std.specs.Prelude.{◌&&◌, nat_le, nat_lt}
 use Rattle.std.specs.List.{AllByRecursion}
 use Rattle.std.proofs.lemmas.Bool.{and_parts, eqb-true, false≢true, leb-true}
 use Rattle.std.proofs.lemmas.Bool.Decides.{nat_tests}
-use Rattle.ack_ranges.specs.Changes.{united}
-use Rattle.ack_ranges.specs.Laws.{RangeIsAdded}
-use Rattle.ack_ranges.specs.Ranges.{count_of}
-use Rattle.rm_source.specs.declared.phase.OutPhase.{OutPhase}
-use Rattle.rm_source.specs.declared.phase.OutPhase.TheVariants as out
+use Rattle.rm_sides.specs.Ranges.Changes.{united}
+use Rattle.rm_sides.specs.Ranges.Laws.{RangeIsAdded}
+use Rattle.rm_sides.specs.Ranges.Ranges.{count_of}
+use Rattle.rm_sides.specs.declared.source.phase.OutPhase.{OutPhase}
+use Rattle.rm_sides.specs.declared.source.phase.OutPhase.TheVariants as out
 use Rattle.record_batch.specs.Fact.{Fact, Creating, Created, Granted, Accepted, Acked, Closing, ClosedOut}
 use Rattle.record_batch.specs.Fact.{Dropped, Ending, EndedOut, Failed}
 use Rattle.sequence_table.specs.Words.{at_seq, last_or}
@@ -26,7 +26,7 @@ use Rattle.record_snapshot.specs.SentLemmas.{count-more}
 use Rattle.rm_protocol.specs.FitInduction.{creating-accepts-none}
 use Rattle.node_laws.specs.Records.{HasValues, AreValues}
 use Rattle.rm_base.specs.Message.{max_number}
-use Rattle.rm_source.specs.Outgoing.{first_run}
+use Rattle.rm_sides.specs.Source.Outgoing.{first_run}
 use Rattle.node_laws.proofs.Near.{TakesNear, drops-none}
 use Rattle.node_laws.proofs.Counts.{IsProper, canonical-proper, united-canonical, united-grows}
 use Rattle.node_laws.proofs.Lists.{All-append}

@@ -4,9 +4,9 @@ use Rattle.std.proofs.Common.{length, sym, subst, arith, Option, Some, None}
 use Rattle.std.specs.Prelude.{nat_le, nat_lt, not, take, filter, zero, suc, IfSome}
 use Rattle.std.specs.List.{AllByRecursion, flat_map, list_all}
 use Rattle.std.proofs.lemmas.Bool.{and_parts, leb-true}
-use Rattle.ack_ranges.specs.declared.range.Range.{Range}
-use Rattle.ack_ranges.specs.Changes.{with_range}
-use Rattle.ack_ranges.specs.Ranges.{greatest_of, size_of}
+use Rattle.rm_sides.specs.declared.ranges.range.Range.{Range}
+use Rattle.rm_sides.specs.Ranges.Changes.{with_range}
+use Rattle.rm_sides.specs.Ranges.Ranges.{greatest_of, size_of}
 use Rattle.rm_base.specs.Message.{max_number}
 use Rattle.rm_base.specs.NumberSet.{has_number}
 use Rattle.rm_base.specs.Text.{IsText}
@@ -16,9 +16,9 @@ use Rattle.soap_profile.specs.Payload.{IsClosedContent}
 use Rattle.wsa_headers.specs.Writable.{IsEprWritable}
 use Rattle.wsa_headers.specs.declared.endpoint.Epr.{Epr}
 use Rattle.record_batch.specs.Fact.{Fact, Made, Creating, Created, Granted, Accepted, Purged, Received}
-use Rattle.rm_destination.specs.Incoming.{is_loose}
-use Rattle.rm_destination.specs.ItemLemmas.{numbers_of-both}
-use Rattle.rm_destination.specs.Messages.{is_empty, numbers_in, numbers_of, ranges_onto, run_of}
+use Rattle.rm_sides.specs.Destination.Incoming.{is_loose}
+use Rattle.rm_sides.specs.Destination.ItemLemmas.{numbers_of-both}
+use Rattle.rm_sides.specs.Destination.Messages.{is_empty, numbers_in, numbers_of, ranges_onto, run_of}
 use Rattle.sequence_table.specs.Words.{Text, at_seq}
 use Rattle.sequence_table.specs.Makers.{Maker, Outgoing, Offered, Incoming, Taken, makers, makers_of, maker}
 use Rattle.sequence_table.specs.Makers.{address}

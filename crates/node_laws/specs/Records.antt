@@ -2,7 +2,7 @@
 use Rattle.std.specs.Prelude.{◌≡◌, ℕ, ◌+◌, ◌^◌, ◌<◌, ◌≤◌, true, List, [], ◌∷◌, length, IfSome}
 use Rattle.std.specs.List.{AllByRecursion}
 use Rattle.rm_base.specs.Limits as limits
-use Rattle.ack_ranges.specs.Ranges.{IsCanonical}
+use Rattle.rm_sides.specs.Ranges.Ranges.{IsCanonical}
 use Rattle.rm_base.specs.NumberSet.{has_number}
 use Rattle.rm_base.specs.Text.{IsText}
 use Rattle.rm_elements.specs.Writable.{IsLapseWritable}

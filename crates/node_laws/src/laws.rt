@@ -8,7 +8,7 @@ ghost use Rattle.node_laws.specs.Keeps.{EachCallKeeps, EachIsByTheRules, EachIsR
 ghost use Rattle.node_laws.specs.OwnTerms.{EndsOnce, OwnAreTerms, ThereAreOwnTerms};
 ghost use Rattle.node_laws.specs.Records.{HasRoomForKeys, MadeIsKept};
 
-use ack_ranges::range_is_added;
+use rm_sides::ranges::range_is_added;
 use rm_protocol::laws::{each_record_may_come_next, what_is_acknowledged_was_accepted};
 use rm_wire::laws::{a_fault_keeps_the_rules, what_is_written_is_read};
 use sequence_table::laws::a_byte_for_each_number;

@@ -10,7 +10,7 @@ ghost use Rattle.rm_protocol.specs.Said.{with_blocks as with_blocks_of};
 
 use crate::name::Name;
 use crate::plain::plain;
-use ack_ranges::{Range, RangeSet};
+use rm_sides::ranges::{Range, RangeSet};
 use rm_base::{Ident, Items, Memory};
 use rm_elements::{AckBlock, AckKind};
 use rm_message::{Acks, Body, Idents, Message};

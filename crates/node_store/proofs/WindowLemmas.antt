@@ -6,18 +6,18 @@ use Rattle.std.specs.List.{flat_map}
 use Rattle.std.proofs.lemmas.Bool.{and_parts, cases_lt, false≢true, true≢false, le-leb, leb-true, lt-ltb, ltb-true}
 use Rattle.std.proofs.lemmas.Bool.Decides.{nat_tests}
 use Rattle.std.proofs.lemmas.Option.{none-some, slice_get_past}
-use Rattle.ack_ranges.specs.declared.range.Range.{Range}
-use Rattle.ack_ranges.specs.Ranges.{in_ranges, IsCanonical, IsFront as IsFrontOf, IsGreatest, RisesFrom}
+use Rattle.rm_sides.specs.declared.ranges.range.Range.{Range}
+use Rattle.rm_sides.specs.Ranges.Ranges.{in_ranges, IsCanonical, IsFront as IsFrontOf, IsGreatest, RisesFrom}
 use Rattle.rm_base.specs.Limits.{window}
 use Rattle.rm_base.specs.NumberSet.{has_number}
-use Rattle.rm_destination.specs.Incoming.{items, Receiving}
-use Rattle.rm_destination.specs.Laws.{FrontIsReached, IsFront}
-use Rattle.rm_destination.specs.Messages.{front_of, Item, numbers_of}
+use Rattle.rm_sides.specs.Destination.Incoming.{items, Receiving}
+use Rattle.rm_sides.specs.Destination.Laws.{FrontIsReached, IsFront}
+use Rattle.rm_sides.specs.Destination.Messages.{front_of, Item, numbers_of}
 use Rattle.record_batch.specs.Fact.{Fact, Made}
 use Rattle.sequence_table.specs.Fits.{all_fit, fits, is_incoming_side, is_outgoing_side}
 use Rattle.sequence_table.specs.Makers.{Maker, Outgoing, Offered, Incoming, Taken, maker, makers, nodes_of}
 use Rattle.sequence_table.specs.Makers.{number}
-use Rattle.rm_destination.specs.Messages.{is_empty}
+use Rattle.rm_sides.specs.Destination.Messages.{is_empty}
 use Rattle.sequence_table.specs.Words.{first_or}
 use Rattle.node_laws.specs.Records.{BeginsWithMade}
 use Rattle.node_tables.specs.Laws.{IncomingIsAsRecorded}

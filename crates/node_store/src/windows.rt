@@ -1,7 +1,7 @@
 //! Whether the records of tables keep what those of a node keep all together.
 ghost use Rattle.std.specs.Prelude.{◌≡◌, ◌↔◌, ◌≤◌, ◌<◌, ◌^◌, ℕ, true, IsTrue};
 ghost use Rattle.rm_base.specs.NumberSet.{has_number};
-ghost use Rattle.rm_destination.specs.Incoming.{items};
+ghost use Rattle.rm_sides.specs.Destination.Incoming.{items};
 ghost use Rattle.rm_journal.specs.JournalState.{end_of};
 ghost use Rattle.sequence_table.specs.Destinations.{front, held};
 ghost use Rattle.sequence_table.specs.Fits.{is_incoming_side, is_outgoing_side};
@@ -14,8 +14,8 @@ ghost use Rattle.node_store.specs.Stored.{IsServing};
 use node_tables::Tables;
 use node_tables::laws::{an_incoming_sequence_is_as_recorded, an_outgoing_sequence_is_as_recorded};
 use rm_base::limits::{MOST_SEQUENCES, MOST_UNACKED, WINDOW};
-use rm_destination::Incoming;
-use rm_destination::laws::front_is_reached;
+use rm_sides::destination::Incoming;
+use rm_sides::destination::laws::front_is_reached;
 use rm_journal::Journal;
 
 /// No memory holds a journal of so many bytes.

@@ -8,17 +8,17 @@ use Rattle.std.specs.List.{flat_map}
 use Rattle.std.proofs.lemmas.Bool.{cases_Bool, eqb-true, true≢false}
 use Rattle.std.proofs.lemmas.List.{get_or-map}
 use Rattle.std.proofs.lemmas.Option.{slice_get-map}
-use Rattle.ack_ranges.specs.Laws.{EndsAreRight, SameNumbersSameRanges, UnionHasBoth}
-use Rattle.ack_ranges.specs.Ranges.{front_of, in_ranges}
-use Rattle.ack_ranges.specs.declared.range.Range.{Range}
+use Rattle.rm_sides.specs.Ranges.Laws.{EndsAreRight, SameNumbersSameRanges, UnionHasBoth}
+use Rattle.rm_sides.specs.Ranges.Ranges.{front_of, in_ranges}
+use Rattle.rm_sides.specs.declared.ranges.range.Range.{Range}
 use Rattle.rm_base.specs.NumberSet.{has_number}
 use Rattle.rm_base.specs.Numbered.{numbered}
 use Rattle.rm_base.specs.declared.message.Behaviour.{Behaviour}
 use Rattle.rm_base.specs.declared.message.Payload.{Payload}
-use Rattle.rm_source.specs.Outgoing.{settled as settled_by}
-use Rattle.rm_destination.specs.Incoming.{forgotten as forgotten_by, passed as passed_by_one, without_passed}
-use Rattle.rm_destination.specs.LooseLemmas.{has_number-without}
-use Rattle.rm_destination.specs.Messages.{is_empty, numbers_of, without}
+use Rattle.rm_sides.specs.Source.Outgoing.{settled as settled_by}
+use Rattle.rm_sides.specs.Destination.Incoming.{forgotten as forgotten_by, passed as passed_by_one, without_passed}
+use Rattle.rm_sides.specs.Destination.LooseLemmas.{has_number-without}
+use Rattle.rm_sides.specs.Destination.Messages.{is_empty, numbers_of, without}
 use Rattle.record_batch.specs.Fact.{Fact, Accepted, Received}
 use Rattle.sequence_table.specs.Destinations.{behaviour_of, held, purged, received}
 use Rattle.sequence_table.specs.Find.{accept_of}

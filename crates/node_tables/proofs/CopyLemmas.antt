@@ -11,8 +11,8 @@ use Rattle.rm_base.specs.Message.{max_number}
 use Rattle.rm_base.specs.NumberSet.{has_number}
 use Rattle.rm_base.specs.NumberSetLemmas.{has_number-at}
 use Rattle.rm_base.specs.declared.message.Payload.{Payload}
-use Rattle.rm_destination.specs.ItemLemmas.{has_number-gone, numbers_of-there}
-use Rattle.rm_destination.specs.Messages.{numbers_in, numbers_of, there_items}
+use Rattle.rm_sides.specs.Destination.ItemLemmas.{has_number-gone, numbers_of-there}
+use Rattle.rm_sides.specs.Destination.Messages.{numbers_in, numbers_of, there_items}
 use Rattle.record_batch.specs.declared.record.Record.{Record}
 use Rattle.record_batch.specs.Fact.{Fact, Received, fact_of}
 use Rattle.sequence_table.specs.Destinations.{held, is_stopped, purged, received, received_of}

@@ -8,10 +8,10 @@ use Rattle.std.proofs.lemmas.List.{append-nil, get_or_append_left, length-append
 use Rattle.std.proofs.lemmas.List.Concat.{flat_map-append}
 use Rattle.rm_base.specs.NumberSet.{has_number}
 use Rattle.rm_base.specs.declared.message.Payload.{Payload}
-use Rattle.rm_destination.specs.Messages.{numbers_of}
+use Rattle.rm_sides.specs.Destination.Messages.{numbers_of}
 use Rattle.record_batch.specs.Fact.{Fact, Accepted, Received, Dropped}
 use Rattle.rm_base.specs.Message.{max_number}
-use Rattle.rm_source.specs.Outgoing.{accepted_count}
+use Rattle.rm_sides.specs.Source.Outgoing.{accepted_count}
 use Rattle.sequence_table.specs.Makers.{addresses_of, makers, makers_of, created, created_of, draws_of, counter, number}
 use Rattle.sequence_table.specs.Find.{accept_of}
 use Rattle.sequence_table.specs.GatherLemmas.{flat_map-more}

@@ -10,17 +10,17 @@ use Rattle.std.proofs.lemmas.Bool.Decides.{nat_tests}
 use Rattle.std.proofs.lemmas.Grind.{flat_map-append}
 use Rattle.std.proofs.lemmas.List.{length-drop}
 use Rattle.std.proofs.lemmas.Option.{slice_get-get_or}
-use Rattle.ack_ranges.specs.declared.range.Range.{Range}
-use Rattle.ack_ranges.specs.Changes.{united}
-use Rattle.ack_ranges.specs.Ranges.{front_of, in_ranges}
+use Rattle.rm_sides.specs.declared.ranges.range.Range.{Range}
+use Rattle.rm_sides.specs.Ranges.Changes.{united}
+use Rattle.rm_sides.specs.Ranges.Ranges.{front_of, in_ranges}
 use Rattle.rm_base.specs.Message.{max_number}
 use Rattle.rm_base.specs.NumberSet.{has_number}
 use Rattle.rm_base.specs.Numbered.{numbered}
 use Rattle.rm_base.specs.declared.message.Payload.{Payload}
 use Rattle.rm_base.specs.declared.message.Behaviour.{Behaviour}
-use Rattle.rm_destination.specs.Incoming.{first_numbers, inbox_of, is_loose, passed as passed_of, without_passed}
-use Rattle.rm_destination.specs.LooseLemmas.{has_number-without}
-use Rattle.rm_destination.specs.Messages.{is_empty, numbers_of}
+use Rattle.rm_sides.specs.Destination.Incoming.{first_numbers, inbox_of, is_loose, passed as passed_of, without_passed}
+use Rattle.rm_sides.specs.Destination.LooseLemmas.{has_number-without}
+use Rattle.rm_sides.specs.Destination.Messages.{is_empty, numbers_of}
 use Rattle.record_batch.specs.Fact.{Fact, Accepted, Acked, Received, Consumed, Dropped, Purged}
 use Rattle.sequence_table.specs.Destinations.{behaviour_of, cursor, held, is_stopped, items, told}
 use Rattle.sequence_table.specs.Fits.{fits, follows_at, is_incoming_side, is_outgoing_side}

@@ -9,7 +9,7 @@ use Rattle.std.proofs.lemmas.List.{at_drop_more}
 use Rattle.std.proofs.lemmas.Option.{none-some, same_Some, slice_get-get_or}
 use Rattle.rm_base.specs.Numbered.{numbered}
 use Rattle.record_batch.specs.Fact.{Fact, Made}
-use Rattle.rm_destination.specs.Messages.{is_empty}
+use Rattle.rm_sides.specs.Destination.Messages.{is_empty}
 use Rattle.sequence_table.specs.Words.{first_or}
 use Rattle.sequence_table.specs.Find.{find_from}
 use Rattle.sequence_table.specs.Fits.{all_fit, fits}

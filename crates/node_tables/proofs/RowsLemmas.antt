@@ -9,10 +9,10 @@ use Rattle.std.proofs.lemmas.Bool.{cases_eq, ne_eqb, false≢true, and_right, an
 use Rattle.std.proofs.lemmas.Option.{get_or_from_slice_get, slice_get-map, slice_get_cases}
 use Rattle.rm_base.specs.Numbered.{numbered}
 use Rattle.rm_base.specs.NumberSet.{has_number}
-use Rattle.ack_ranges.specs.declared.range.Range.{Range}
-use Rattle.ack_ranges.specs.Ranges.{IsCanonical, in_ranges}
-use Rattle.rm_destination.specs.Incoming.{Receiving, held as held_by, is_loose}
-use Rattle.rm_destination.specs.Messages.{is_empty}
+use Rattle.rm_sides.specs.declared.ranges.range.Range.{Range}
+use Rattle.rm_sides.specs.Ranges.Ranges.{IsCanonical, in_ranges}
+use Rattle.rm_sides.specs.Destination.Incoming.{Receiving, held as held_by, is_loose}
+use Rattle.rm_sides.specs.Destination.Messages.{is_empty}
 use Rattle.record_batch.specs.Fact.{Fact, Created, Accepted, Acked, Received, Closing, ClosedOut, Closed}
 use Rattle.record_batch.specs.Fact.{Ending}
 use Rattle.record_batch.specs.Fact.{EndedOut, Ended, Failed, Consumed, Dropped, Purged}

@@ -12,12 +12,12 @@ use Rattle.std.proofs.lemmas.Bool.Decides.{nat_tests}
 use Rattle.std.proofs.lemmas.Grind.{flat_map-append}
 use Rattle.std.proofs.lemmas.List.{append-nil, drop_all, length-set, get_or-map, get_or-set_same, get_or-set_other}
 use Rattle.std.proofs.lemmas.List.{length-map, map-append, reverse-append, take-append-drop}
-use Rattle.ack_ranges.specs.Laws.{EndsAreRight, UnionHasBoth}
-use Rattle.ack_ranges.specs.Ranges.{front_of, in_ranges}
-use Rattle.ack_ranges.specs.declared.range.Range.{Range}
+use Rattle.rm_sides.specs.Ranges.Laws.{EndsAreRight, UnionHasBoth}
+use Rattle.rm_sides.specs.Ranges.Ranges.{front_of, in_ranges}
+use Rattle.rm_sides.specs.declared.ranges.range.Range.{Range}
 use Rattle.rm_base.specs.NumberSet.{has_number}
 use Rattle.rm_base.specs.Numbered.{numbered}
-use Rattle.rm_destination.specs.Messages.{is_empty, numbers_in, numbers_of, without}
+use Rattle.rm_sides.specs.Destination.Messages.{is_empty, numbers_in, numbers_of, without}
 use Rattle.record_batch.specs.Fact.{Fact, Accepted, Dropped, Purged}
 use Rattle.sequence_table.specs.Destinations.{held, purged, received}
 use Rattle.sequence_table.specs.Fits.{all_fit, is_outgoing_side}

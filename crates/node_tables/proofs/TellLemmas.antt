@@ -7,13 +7,13 @@ use Rattle.std.specs.Prelude.{◌||◌, nat_le, slice_get}
 use Rattle.std.proofs.lemmas.Bool.{and_parts, eq-eqb, false≢true, not-true}
 use Rattle.std.proofs.lemmas.List.{append-nil, length-append, length-map}
 use Rattle.std.proofs.Math.Seq.{get_or-append_seam}
-use Rattle.ack_ranges.specs.Ranges.{Contents}
+use Rattle.rm_sides.specs.Ranges.Ranges.{Contents}
 use Rattle.rm_base.specs.Message.{max_number}
 use Rattle.rm_base.specs.NumberSet.{has_number}
 use Rattle.rm_base.specs.declared.message.Payload.{Payload}
-use Rattle.rm_destination.specs.Incoming.{held as held_by}
-use Rattle.rm_destination.specs.ItemLemmas.{has_number-gone, numbers_of-there}
-use Rattle.rm_destination.specs.Messages.{is_empty, numbers_in, numbers_of, there_items}
+use Rattle.rm_sides.specs.Destination.Incoming.{held as held_by}
+use Rattle.rm_sides.specs.Destination.ItemLemmas.{has_number-gone, numbers_of-there}
+use Rattle.rm_sides.specs.Destination.Messages.{is_empty, numbers_in, numbers_of, there_items}
 use Rattle.record_batch.specs.Fact.{Fact, Made, Creating, Created, Granted, Accepted, Acked, Received, Consumed}
 use Rattle.record_batch.specs.Fact.{Dropped, Purged}
 use Rattle.std.specs.List.{flat_map}

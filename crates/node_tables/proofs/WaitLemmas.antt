@@ -6,16 +6,16 @@ use Rattle.std.specs.List.{flat_map}
 use Rattle.std.proofs.lemmas.Bool.Decides.{eqb_tells}
 use Rattle.std.proofs.lemmas.List.{length-append}
 use Rattle.std.proofs.lemmas.List.Sums.{sum_by-cons}
-use Rattle.rm_source.specs.Outgoing.{first_run}
+use Rattle.rm_sides.specs.Source.Outgoing.{first_run}
 use Rattle.record_batch.specs.Fact.{Accepted, Dropped, Fact}
 use Rattle.sequence_table.specs.GatherLemmas.{last_or-append}
 use Rattle.sequence_table.specs.Makers.{Maker, Outgoing, Offered, Incoming, Taken, makers}
 use Rattle.sequence_table.specs.Sources.{accepted, accepted_of, acked, acked_of, all_unacked, dropped, dropped_of}
 use Rattle.sequence_table.specs.Sources.{is_sending, phase, unacked_at, unacked_from}
 use Rattle.sequence_table.specs.Words.{Text, last_or}
-use Rattle.ack_ranges.specs.declared.range.Range.{Range}
-use Rattle.ack_ranges.specs.Changes.{united, with_range}
-use Rattle.ack_ranges.specs.Ranges.{count_of, size_of}
+use Rattle.rm_sides.specs.declared.ranges.range.Range.{Range}
+use Rattle.rm_sides.specs.Ranges.Changes.{united, with_range}
+use Rattle.rm_sides.specs.Ranges.Ranges.{count_of, size_of}
 use Rattle.sequence_table.specs.Told.{Told, told_by, told_from}
 use Rattle.node_tables.specs.Row.Row.{Seen}
 use Rattle.node_tables.specs.Kept.{Table, Holds, records_in, tolds}

@@ -7,9 +7,9 @@ use Rattle.record_snapshot.specs.Same.{HaveProper}
 use Rattle.record_snapshot.specs.Snapshot.{snapshot}
 use Rattle.rm_base.specs.NumberSet.{has_number}
 use Rattle.rm_base.specs.declared.message.Payload.{Payload}
-use Rattle.rm_destination.specs.Incoming.{held as held_by}
-use Rattle.rm_destination.specs.Messages.{is_empty, numbers_of}
-use Rattle.rm_source.specs.Outgoing.{accepted_count as count_by}
+use Rattle.rm_sides.specs.Destination.Incoming.{held as held_by}
+use Rattle.rm_sides.specs.Destination.Messages.{is_empty, numbers_of}
+use Rattle.rm_sides.specs.Source.Outgoing.{accepted_count as count_by}
 use Rattle.record_batch.specs.declared.record.Record.{Record}
 use Rattle.record_batch.specs.Fact.{Fact, fact_of, Made, Creating, Accepted, Acked, Received, Created}
 use Rattle.record_batch.specs.Fact.{Granted, Consumed, Dropped, Purged}

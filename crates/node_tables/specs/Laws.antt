@@ -1,11 +1,11 @@
 -- Laws of what the records say of one sequence, each the contract of a function in src/laws.rt.
 use Rattle.std.specs.Prelude.{◌≡◌, ℕ, ◌<◌, Bool, true, false, List, Some}
-use Rattle.rm_source.specs.Outgoing.{Sending}
-use Rattle.rm_destination.specs.declared.outcome.InPhase.{InPhase}
-use Rattle.rm_destination.specs.declared.outcome.InPhase.TheVariants.{Open, Ended}
-use Rattle.rm_destination.specs.Incoming.{Receiving, is_stopped as stopped_in, phase_of, inbox as inbox_in}
-use Rattle.rm_destination.specs.Incoming.{discarded as discarded_in, held as held_in, items as items_in}
-use Rattle.rm_destination.specs.Messages.{any_true as any_in, front_of}
+use Rattle.rm_sides.specs.Source.Outgoing.{Sending}
+use Rattle.rm_sides.specs.declared.destination.outcome.InPhase.{InPhase}
+use Rattle.rm_sides.specs.declared.destination.outcome.InPhase.TheVariants.{Open, Ended}
+use Rattle.rm_sides.specs.Destination.Incoming.{Receiving, is_stopped as stopped_in, phase_of, inbox as inbox_in}
+use Rattle.rm_sides.specs.Destination.Incoming.{discarded as discarded_in, held as held_in, items as items_in}
+use Rattle.rm_sides.specs.Destination.Messages.{any_true as any_in, front_of}
 use Rattle.record_batch.specs.Fact.{Fact}
 use Rattle.sequence_table.specs.Makers.{address, number}
 use Rattle.sequence_table.specs.Destinations.{cursor, discarded, front, has_end, held, inbox, is_ended, is_over}

@@ -4,11 +4,11 @@ use Rattle.std.proofs.Common.{sym, ap, subst, ◌∙◌, arith, Option, Some, No
 use Rattle.std.specs.Prelude.{◌||◌, not}
 use Rattle.std.proofs.lemmas.Bool.{false≢true}
 use Rattle.std.proofs.lemmas.Option.{none-some, same_Some}
-use Rattle.rm_source.specs.Outgoing.{Sending}
-use Rattle.rm_destination.specs.Incoming.{Receiving, inbox_of, is_past, items, phase_of}
-use Rattle.rm_destination.specs.declared.outcome.InPhase.TheVariants.{Open as is_open, Closed as is_closed}
-use Rattle.rm_destination.specs.declared.outcome.InPhase.TheVariants.{Ended as is_ended}
-use Rattle.rm_destination.specs.Messages.{Item, any_true, contents_of, is_empty}
+use Rattle.rm_sides.specs.Source.Outgoing.{Sending}
+use Rattle.rm_sides.specs.Destination.Incoming.{Receiving, inbox_of, is_past, items, phase_of}
+use Rattle.rm_sides.specs.declared.destination.outcome.InPhase.TheVariants.{Open as is_open, Closed as is_closed}
+use Rattle.rm_sides.specs.declared.destination.outcome.InPhase.TheVariants.{Ended as is_ended}
+use Rattle.rm_sides.specs.Destination.Messages.{Item, any_true, contents_of, is_empty}
 use Rattle.record_batch.specs.Fact.{Fact, Made}
 use Rattle.sequence_table.specs.Makers.{Maker, Outgoing, Offered, Incoming, Taken, address, maker}
 use Rattle.sequence_table.specs.Makers.{number}

@@ -2,12 +2,12 @@
 use Rattle.std.specs.Prelude.{◌≡◌, ◌⊎◌, ℕ, ◌+◌, ◌-◌, ◌≤◌, ◌==◌, ◌&&◌, Bool, true, false, if◌then◌else◌, nat_le, List}
 use Rattle.std.specs.Prelude.{[], ◌<◌, ◌++◌, IfSome, Option, Some, None, slice_index_or, slice_set}
 use Rattle.std.specs.Option.{option_map, option_to_list}
-use Rattle.ack_ranges.specs.declared.range.Range.{Range}
-use Rattle.ack_ranges.specs.Ranges.{front_of, in_ranges}
+use Rattle.rm_sides.specs.declared.ranges.range.Range.{Range}
+use Rattle.rm_sides.specs.Ranges.Ranges.{front_of, in_ranges}
 use Rattle.rm_base.specs.Message.{max_number}
 use Rattle.rm_base.specs.Numbered.{numbered}
-use Rattle.rm_destination.specs.Incoming.{passed}
-use Rattle.rm_destination.specs.Messages.{is_empty}
+use Rattle.rm_sides.specs.Destination.Incoming.{passed}
+use Rattle.rm_sides.specs.Destination.Messages.{is_empty}
 use Rattle.record_batch.specs.Fact.{Fact, Acked, Consumed, Dropped, Purged}
 use Rattle.sequence_table.specs.Fits.{all_fit}
 use Rattle.sequence_table.specs.Told.{Side, Sends, Receives, Told, told_all}

@@ -4,7 +4,7 @@ ghost use Rattle.std.specs.Prelude.{IfSome};
 ghost use Rattle.std.specs.Prelude.{IfNone};
 ghost use Rattle.record_batch.specs.Fact.{Accepted, Received, fact_of};
 ghost use Rattle.rm_base.specs.NumberSet.{has_number};
-ghost use Rattle.rm_destination.specs.Messages.{numbers_of};
+ghost use Rattle.rm_sides.specs.Destination.Messages.{numbers_of};
 ghost use Rattle.node_tables.specs.Copies.{AreOnce, IsThere, MayBeCopied};
 ghost use Rattle.node_tables.specs.Kept.{AllHeld, IsHeld, accepted_count_in, accepted_in, dropped_in, fact_at};
 ghost use Rattle.node_tables.specs.Kept.{payload_of, received_in, records_of};

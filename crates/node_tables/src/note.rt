@@ -4,7 +4,7 @@ ghost use Rattle.record_batch.specs.Fact.{Fact, fact_of};
 ghost use Rattle.sequence_table.specs.Told.{Told};
 ghost use Rattle.node_tables.specs.Kept.{HasPlace, IsHeld, fact_at, is_passing};
 
-use ack_ranges::RangeSet;
+use rm_sides::ranges::RangeSet;
 use record_batch::Record;
 use crate::row::{Row, Start};
 

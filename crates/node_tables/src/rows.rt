@@ -3,7 +3,7 @@ ghost use Rattle.std.specs.Prelude.{◌≡◌, ◌+◌, ◌-◌, ◌<◌, ◌≤
 ghost use Rattle.std.specs.Prelude.{true, min, sum_by, vec_len, vec_capacity};
 ghost use Rattle.record_batch.specs.Fact.{Accepted, Acked, Received, fact_of};
 ghost use Rattle.rm_base.specs.Message.{max_number};
-ghost use Rattle.rm_destination.specs.Messages.{is_empty};
+ghost use Rattle.rm_sides.specs.Destination.Messages.{is_empty};
 ghost use Rattle.node_tables.specs.Row.Row.{Seen, step, takes, takes_message, takes_payload};
 ghost use Rattle.sequence_table.specs.Told.{each_after, names};
 ghost use Rattle.node_tables.specs.Kept.{accepted_count_in, all_forgotten, held_in, is_passing, is_whole, row_at};
@@ -12,10 +12,10 @@ ghost use Rattle.node_tables.specs.Reads.{waiting};
 ghost use Rattle.node_tables.specs.Room.{has_room, spare_at, spares, spent_at};
 
 use crate::record::named_by;
-use ack_ranges::RangeSet;
+use rm_sides::ranges::RangeSet;
 use record_batch::Record;
 use rm_base::{Blob, Memory, Payload};
-use rm_source::OutPhase;
+use rm_sides::source::OutPhase;
 use crate::row::Row;
 
 /// How many messages a row accepted.

@@ -6,9 +6,9 @@ ghost use Rattle.std.specs.List.{AllByRecursion};
 ghost use Rattle.std.specs.Option.{option_map, option_to_list};
 ghost use Rattle.rm_base.specs.Numbered.{numbered};
 ghost use Rattle.record_batch.specs.Fact.{Acked, Fact, fact_of};
-ghost use Rattle.ack_ranges.specs.Changes.{united};
-ghost use Rattle.ack_ranges.specs.Ranges.{front_of, in_ranges};
-ghost use Rattle.rm_destination.specs.Messages.{is_empty};
+ghost use Rattle.rm_sides.specs.Ranges.Changes.{united};
+ghost use Rattle.rm_sides.specs.Ranges.Ranges.{front_of, in_ranges};
+ghost use Rattle.rm_sides.specs.Destination.Messages.{is_empty};
 ghost use Rattle.record_snapshot.specs.Snapshot.{past_front};
 ghost use Rattle.node_tables.specs.declared.note.Note.TheVariants.{Accepted, Purged, Received};
 ghost use Rattle.node_tables.specs.Kept.{IsShort, fact_at, tolds};
@@ -16,7 +16,7 @@ ghost use Rattle.node_tables.specs.Shorter.{HasRow, IsFree, IsOwn, IsProperNote,
 ghost use Rattle.node_tables.specs.Shorter.{fact_ahead, fact_instead, marked, passed_in, some_ranges};
 
 use crate::note::Note;
-use ack_ranges::{Range, RangeSet, ends_are_right, union_has_both, union_with_nothing_is_the_same};
+use rm_sides::ranges::{Range, RangeSet, ends_are_right, union_has_both, union_with_nothing_is_the_same};
 use record_batch::Record;
 use rm_base::{Memory, numbered};
 use crate::row::Row;

@@ -5,10 +5,10 @@ ghost use Rattle.rm_base.specs.Limits.{now_max};
 use crate::peer::{NODE_1, NODE_2, Peer, at_first, at_second, is_packet};
 use crate::texts::{FIRST_OF_1, envelope, joined, request};
 use rm_base::{Behaviour, Memory};
-use rm_destination::InPhase;
+use rm_sides::destination::InPhase;
 use rm_message::FaultKind;
 use rm_node::{NodeError, Outs, Reaction};
-use rm_source::OutPhase;
+use rm_sides::source::OutPhase;
 use std::alloc::Global;
 use std::test::Fail;
 

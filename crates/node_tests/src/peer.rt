@@ -8,10 +8,10 @@ use node_laws::answers::Wish;
 use node_store::MountError;
 use record_batch::Via;
 use rm_base::{Behaviour, Blob, Lapse, Uri};
-use rm_destination::InPhase;
+use rm_sides::destination::InPhase;
 use rm_message::FaultKind;
 use rm_node::{Call, Made, Node, NodeError, Out, Outs, Reaction, Sent};
-use rm_source::OutPhase;
+use rm_sides::source::OutPhase;
 use std::alloc::Global;
 
 pub(crate) const NODE_1: &[u8] = b"http://node1.example/";

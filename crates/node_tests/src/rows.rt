@@ -4,7 +4,7 @@ use crate::texts::{FIRST_OF_2, envelope, joined, message};
 use rm_base::{Blob, Memory};
 use rm_message::FaultKind;
 use rm_node::{NodeError, Reaction};
-use rm_source::OutPhase;
+use rm_sides::source::OutPhase;
 use std::alloc::Global;
 use std::test::Fail;
 

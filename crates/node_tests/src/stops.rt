@@ -3,9 +3,9 @@ use crate::device::Device;
 use crate::peer::{Peer, find, make};
 use crate::texts::{FIRST_OF_1, acknowledgement};
 use node_store::MountError;
-use rm_destination::InPhase;
+use rm_sides::destination::InPhase;
 use rm_node::NodeError;
-use rm_source::OutPhase;
+use rm_sides::source::OutPhase;
 use std::alloc::Global;
 use std::test::Fail;
 

@@ -10,7 +10,7 @@ use Rattle.soap_profile.specs.declared.tree.Attr.{Attr}
 use Rattle.soap_values.specs.Children.{name_in, children_named, value_among}
 use Rattle.soap_values.specs.Outcome.{◌>>=◌, optional, single, each}
 use Rattle.soap_values.specs.Values.{trimmed_text, whole_number}
-use Rattle.ack_ranges.specs.declared.range.Range.{Range}
+use Rattle.rm_sides.specs.declared.ranges.range.Range.{Range}
 use Rattle.rm_elements.specs.Headers.{ident_of, identifier, counted, number_in, number_of, unless_zero}
 use Rattle.rm_elements.specs.Headers.{message_number}
 use Rattle.rm_elements.specs.Headers.{numbered_in, unless_rolled, bound_in, range_of, ack_of, ack_in}

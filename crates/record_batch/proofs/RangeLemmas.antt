@@ -4,8 +4,8 @@ use Rattle.std.proofs.Common.{refl, sym, ap, subst, ◌∙◌, arith}
 use Rattle.std.specs.Prelude.{◌&&◌}
 use Rattle.std.proofs.lemmas.Bool.{lt-ltb}
 use Rattle.std.proofs.lemmas.List.{at_drop_more, take_more}
-use Rattle.ack_ranges.specs.Changes.{with_range}
-use Rattle.ack_ranges.specs.declared.range.Range.{Range}
+use Rattle.rm_sides.specs.Ranges.Changes.{with_range}
+use Rattle.rm_sides.specs.declared.ranges.range.Range.{Range}
 use Rattle.record_batch.specs.Parts.{is_from, rise_from}
 use Rattle.record_batch.proofs.PartLaws.{from-true}
 

@@ -1,6 +1,6 @@
 -- A record as contracts see it: without where it lies in memory and what is spare in it.
 use Rattle.std.specs.Prelude.{ℕ, List, Option}
-use Rattle.ack_ranges.specs.declared.range.Range.{Range}
+use Rattle.rm_sides.specs.declared.ranges.range.Range.{Range}
 use Rattle.rm_base.specs.declared.message.Behaviour.{Behaviour}
 use Rattle.rm_base.specs.declared.message.Cause.{Cause}
 use Rattle.rm_base.specs.declared.message.Payload.{Payload}

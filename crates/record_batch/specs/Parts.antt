@@ -3,7 +3,7 @@ use Rattle.std.specs.Prelude.{ℕ, zero, suc, ◌+◌, ◌&&◌, nat_lt, nat_le,
 use Rattle.std.specs.Prelude.{length, Option, Some, None, false}
 use Rattle.std.specs.Str.{bytes_eq}
 use Rattle.rm_base.specs.Limits as limits
-use Rattle.ack_ranges.specs.declared.range.Range.{Range}
+use Rattle.rm_sides.specs.declared.ranges.range.Range.{Range}
 use Rattle.rm_base.specs.Message.{max_number}
 use Rattle.rm_base.specs.declared.message.Behaviour.{Behaviour}
 use Rattle.rm_base.specs.declared.message.Behaviour.TheVariants.{NoDiscard, EntireSequence, FollowingFirstGap}

@@ -30,7 +30,7 @@ ghost use Rattle.record_batch.specs.Parts.{
 };
 
 use crate::record::{OwnOffer, PeerOffer, Via};
-use ack_ranges::{Range, RangeSet};
+use rm_sides::ranges::{Range, RangeSet};
 use rm_base::{
     Behaviour, Binding, Bindings, Blob, Cause, Ident, Items, Lapse, MAX_NUMBER, Memory, Payload,
     Uri,

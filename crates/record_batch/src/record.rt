@@ -1,5 +1,5 @@
 //! What a node writes down.
-use ack_ranges::RangeSet;
+use rm_sides::ranges::RangeSet;
 use rm_base::{Behaviour, Blob, Cause, Ident, Items, Lapse, Payload, Uri};
 use wsa_headers::Epr;
 

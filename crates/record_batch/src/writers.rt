@@ -27,7 +27,7 @@ ghost use Rattle.record_batch.specs.Writable.{
 };
 
 use crate::record::{OwnOffer, PeerOffer, Via};
-use ack_ranges::{Range, RangeSet};
+use rm_sides::ranges::{Range, RangeSet};
 use rm_base::{Behaviour, Binding, Blob, Cause, Lapse, Memory, Payload};
 use soap_profile::Element;
 use soap_writer::write_element;

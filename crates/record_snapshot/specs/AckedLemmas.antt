@@ -7,10 +7,10 @@ use Rattle.std.proofs.lemmas.Bool.{and_parts, cases_Bool, eqb-true, false≢true
 use Rattle.std.proofs.lemmas.Bool.Decides.{nat_tests}
 use Rattle.std.proofs.lemmas.Grind.{flat_map-append}
 use Rattle.std.proofs.lemmas.List.{append-nil, length-drop}
-use Rattle.ack_ranges.specs.Changes.{united}
-use Rattle.ack_ranges.specs.Laws.{EndsAreRight, UnionHasBoth}
-use Rattle.ack_ranges.specs.declared.range.Range.{Range}
-use Rattle.ack_ranges.specs.Ranges.{IsCanonical, IsFront, front_of, in_range, in_ranges, is_between}
+use Rattle.rm_sides.specs.Ranges.Changes.{united}
+use Rattle.rm_sides.specs.Ranges.Laws.{EndsAreRight, UnionHasBoth}
+use Rattle.rm_sides.specs.declared.ranges.range.Range.{Range}
+use Rattle.rm_sides.specs.Ranges.Ranges.{IsCanonical, IsFront, front_of, in_range, in_ranges, is_between}
 use Rattle.rm_base.specs.Message.{max_number}
 use Rattle.record_batch.specs.Fact.{Fact, Accepted, Acked, Received, Consumed, Dropped, Purged}
 use Rattle.sequence_table.specs.Words.{Text, last_or}

@@ -5,11 +5,11 @@ use Rattle.std.proofs.Common.{arith}
 use Rattle.std.specs.Prelude.{nat_le}
 use Rattle.std.specs.List.{list_all}
 use Rattle.std.proofs.lemmas.Bool.{and_parts, cases_Bool, eqb-true, false≢true, leb-true}
-use Rattle.ack_ranges.specs.Ranges.{in_ranges}
+use Rattle.rm_sides.specs.Ranges.Ranges.{in_ranges}
 use Rattle.rm_base.specs.Message.{max_number}
 use Rattle.rm_base.specs.NumberSet.{has_number}
-use Rattle.rm_destination.specs.Incoming.{is_loose}
-use Rattle.rm_destination.specs.Messages.{is_empty, numbers_of}
+use Rattle.rm_sides.specs.Destination.Incoming.{is_loose}
+use Rattle.rm_sides.specs.Destination.Messages.{is_empty, numbers_of}
 use Rattle.record_batch.specs.Fact.{Fact, Received, Consumed, Purged}
 use Rattle.sequence_table.specs.Destinations.{behaviour, held, purged, purged_of, received}
 use Rattle.sequence_table.specs.Fits.{all_fit, fits, is_incoming_side, is_up_to, may_be_gone}

@@ -3,10 +3,10 @@ use Rattle.std.proofs.Common.{ℕ, ◌<◌, ◌==◌, true, false, cond, List, [
 use Rattle.std.specs.Prelude.{nat_lt}
 use Rattle.std.specs.List.{list_any, AllByRecursion}
 use Rattle.std.proofs.lemmas.Bool.{cases_Bool, ltb-true}
-use Rattle.ack_ranges.specs.declared.range.Range.{Range}
-use Rattle.ack_ranges.specs.Ranges.{in_ranges}
+use Rattle.rm_sides.specs.declared.ranges.range.Range.{Range}
+use Rattle.rm_sides.specs.Ranges.Ranges.{in_ranges}
 use Rattle.rm_base.specs.declared.message.Payload.{Payload}
-use Rattle.rm_destination.specs.Messages.{is_empty}
+use Rattle.rm_sides.specs.Destination.Messages.{is_empty}
 use Rattle.record_batch.specs.Fact.{Fact, Accepted, Acked, Received, Consumed, Dropped, Purged}
 use Rattle.sequence_table.specs.Sources.{accepted_count}
 use Rattle.sequence_table.specs.Destinations.{held}

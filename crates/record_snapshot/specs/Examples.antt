@@ -1,6 +1,6 @@
 -- Three messages, delivered and acknowledged; two of them consumed.
 use Rattle.std.specs.Prelude.{ℕ, ◌∷◌, [], List, None, codes}
-use Rattle.ack_ranges.specs.declared.range.Range.{Range}
+use Rattle.rm_sides.specs.declared.ranges.range.Range.{Range}
 use Rattle.rm_base.specs.declared.message.Behaviour.TheVariants.{FollowingFirstGap, NoDiscard}
 use Rattle.record_batch.specs.declared.record.Via.TheVariants.{Direct}
 use Rattle.record_batch.specs.Fact.{Fact, Made, Creating, Created, Granted, Accepted, Acked, Received, Consumed}

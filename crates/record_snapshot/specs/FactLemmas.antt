@@ -4,14 +4,14 @@ use Rattle.std.proofs.Common.{refl, sym, ap, subst, ◌∙◌, arith, Option, No
 use Rattle.std.specs.Prelude.{drop, not, slice_get}
 use Rattle.std.proofs.lemmas.Bool.{cases_Bool, ne_eqb}
 use Rattle.std.proofs.lemmas.List.{length-drop}
-use Rattle.ack_ranges.specs.Ranges.{in_ranges}
+use Rattle.rm_sides.specs.Ranges.Ranges.{in_ranges}
 use Rattle.rm_base.specs.Numbered.{numbered}
 use Rattle.rm_base.specs.NumberSet.{has_number}
-use Rattle.rm_destination.specs.Messages.{without}
-use Rattle.rm_destination.specs.Messages.{is_empty, contents_of, without_gap, sorted_onto, Item}
-use Rattle.rm_destination.specs.Incoming.{inbox_of, is_loose, is_whole_by}
-use Rattle.rm_destination.specs.ItemLemmas.{length-items_of}
-use Rattle.rm_destination.specs.LooseLemmas.{inbox_of-loose}
+use Rattle.rm_sides.specs.Destination.Messages.{without}
+use Rattle.rm_sides.specs.Destination.Messages.{is_empty, contents_of, without_gap, sorted_onto, Item}
+use Rattle.rm_sides.specs.Destination.Incoming.{inbox_of, is_loose, is_whole_by}
+use Rattle.rm_sides.specs.Destination.ItemLemmas.{length-items_of}
+use Rattle.rm_sides.specs.Destination.LooseLemmas.{inbox_of-loose}
 use Rattle.record_batch.specs.Fact.{Fact}
 use Rattle.sequence_table.specs.Makers.{Maker, maker}
 use Rattle.sequence_table.specs.Words.{at_seq}

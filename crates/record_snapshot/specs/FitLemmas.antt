@@ -8,18 +8,18 @@ use Rattle.std.proofs.lemmas.Bool.{and_parts, and_from, cases_Bool, eqb-true, fa
 use Rattle.std.proofs.lemmas.Bool.Decides.{nat_tests}
 use Rattle.std.proofs.lemmas.Grind.{flat_map-append}
 use Rattle.std.proofs.lemmas.List.{append-nil}
-use Rattle.ack_ranges.specs.declared.range.Range.{Range}
-use Rattle.ack_ranges.specs.Ranges.{in_ranges}
+use Rattle.rm_sides.specs.declared.ranges.range.Range.{Range}
+use Rattle.rm_sides.specs.Ranges.Ranges.{in_ranges}
 use Rattle.rm_base.specs.Message.{max_number}
 use Rattle.rm_base.specs.NumberSet.{greatest_of, has_number}
 use Rattle.rm_base.specs.Numbered.{numbered}
 use Rattle.rm_base.specs.declared.message.Payload.{Payload}
-use Rattle.rm_source.specs.declared.phase.OutPhase.{OutPhase}
-use Rattle.rm_source.specs.declared.phase.OutPhase.TheVariants as out
-use Rattle.rm_destination.specs.Messages.{without}
-use Rattle.rm_destination.specs.Messages.{is_empty, numbers_of, any_true, gone_items, numbers_in}
-use Rattle.rm_destination.specs.Messages.{there_items}
-use Rattle.rm_destination.specs.Incoming.{inbox_of, is_loose}
+use Rattle.rm_sides.specs.declared.source.phase.OutPhase.{OutPhase}
+use Rattle.rm_sides.specs.declared.source.phase.OutPhase.TheVariants as out
+use Rattle.rm_sides.specs.Destination.Messages.{without}
+use Rattle.rm_sides.specs.Destination.Messages.{is_empty, numbers_of, any_true, gone_items, numbers_in}
+use Rattle.rm_sides.specs.Destination.Messages.{there_items}
+use Rattle.rm_sides.specs.Destination.Incoming.{inbox_of, is_loose}
 use Rattle.record_batch.specs.Fact.{Fact, Made, Creating, Created, Granted, Accepted, Acked, Received, Closing}
 use Rattle.record_batch.specs.Fact.{ClosedOut, Closed, Ending, EndedOut, Ended, Failed, Consumed, Dropped, Purged}
 use Rattle.sequence_table.specs.Words.{Text, at_seq, last_or}

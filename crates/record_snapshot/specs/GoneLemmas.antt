@@ -5,13 +5,13 @@ use Rattle.std.specs.List.{flat_map}
 use Rattle.std.proofs.lemmas.Bool.{and_parts, cases_Bool, eqb-true, false≢true, true≢false}
 use Rattle.std.proofs.lemmas.Bool.Decides.{nat_tests}
 use Rattle.std.proofs.lemmas.List.{append-nil}
-use Rattle.ack_ranges.specs.declared.range.Range.{Range}
-use Rattle.ack_ranges.specs.Ranges.{count_of, in_ranges}
+use Rattle.rm_sides.specs.declared.ranges.range.Range.{Range}
+use Rattle.rm_sides.specs.Ranges.Ranges.{count_of, in_ranges}
 use Rattle.rm_base.specs.NumberSet.{greatest_of, has_number}
-use Rattle.rm_destination.specs.Incoming.{is_loose}
-use Rattle.rm_destination.specs.ItemLemmas.{has-more, numbers-in}
-use Rattle.rm_destination.specs.LooseLemmas.{within-from}
-use Rattle.rm_destination.specs.Messages.{numbers_of, numbers_in}
+use Rattle.rm_sides.specs.Destination.Incoming.{is_loose}
+use Rattle.rm_sides.specs.Destination.ItemLemmas.{has-more, numbers-in}
+use Rattle.rm_sides.specs.Destination.LooseLemmas.{within-from}
+use Rattle.rm_sides.specs.Destination.Messages.{numbers_of, numbers_in}
 use Rattle.record_batch.specs.Fact.{Fact, Received, Consumed, Purged}
 use Rattle.sequence_table.specs.Destinations.{behaviour, cursor, cursor_of, held, purged, purged_of, received}
 use Rattle.sequence_table.specs.Destinations.{received_of}

@@ -8,15 +8,15 @@ use Rattle.std.proofs.lemmas.List.Sums.{sum_by-cons}
 use Rattle.std.proofs.lemmas.Bool.{and_parts, cases_Bool, eqb-true, false≢true, leb-true}
 use Rattle.std.proofs.lemmas.Grind.{flat_map-append}
 use Rattle.std.proofs.lemmas.List.{append-nil}
-use Rattle.ack_ranges.specs.declared.range.Range.{Range}
-use Rattle.ack_ranges.specs.Ranges.{RisesFrom, count_of, in_ranges, size_of}
+use Rattle.rm_sides.specs.declared.ranges.range.Range.{Range}
+use Rattle.rm_sides.specs.Ranges.Ranges.{RisesFrom, count_of, in_ranges, size_of}
 use Rattle.rm_base.specs.Message.{max_number}
 use Rattle.rm_base.specs.NumberSet.{has_number}
 use Rattle.rm_base.specs.declared.message.Payload.{Payload}
-use Rattle.rm_destination.specs.Incoming.{is_loose}
-use Rattle.rm_destination.specs.ItemLemmas.{length-numbers_in, length-run, numbers_of-both}
-use Rattle.rm_destination.specs.Messages.{without}
-use Rattle.rm_destination.specs.Messages.{is_empty, numbers_of, gone_items, numbers_in, run_of, there_items}
+use Rattle.rm_sides.specs.Destination.Incoming.{is_loose}
+use Rattle.rm_sides.specs.Destination.ItemLemmas.{length-numbers_in, length-run, numbers_of-both}
+use Rattle.rm_sides.specs.Destination.Messages.{without}
+use Rattle.rm_sides.specs.Destination.Messages.{is_empty, numbers_of, gone_items, numbers_in, run_of, there_items}
 use Rattle.record_batch.specs.Fact.{Fact, Accepted, Acked, Received, Consumed, Dropped, Purged}
 use Rattle.sequence_table.specs.Destinations.{behaviour, cursor_of, held, is_stopped, purged, purged_of, received}
 use Rattle.sequence_table.specs.Destinations.{received_of}

@@ -4,19 +4,19 @@ use Rattle.std.proofs.Common.{◌++◌, length, refl, sym, ap, subst, ◌∙◌,
 use Rattle.std.specs.Option.{option_or}
 use Rattle.std.proofs.lemmas.Bool.{cases_Bool, eqb-true, true≢false, false≢true}
 use Rattle.std.proofs.lemmas.Bool.Decides.{nat_tests}
-use Rattle.ack_ranges.specs.declared.range.Range.{Range}
-use Rattle.ack_ranges.specs.Ranges.{in_ranges}
+use Rattle.rm_sides.specs.declared.ranges.range.Range.{Range}
+use Rattle.rm_sides.specs.Ranges.Ranges.{in_ranges}
 use Rattle.rm_base.specs.NumberSet.{Rises, has_number, greatest_of}
 use Rattle.rm_base.specs.NumberSetLemmas.{Rises-with_number}
 use Rattle.rm_base.specs.declared.message.Payload.{Payload}
 use Rattle.rm_base.specs.declared.message.Behaviour.{Behaviour}
 use Rattle.rm_base.specs.declared.message.Behaviour.TheVariants.{EntireSequence, FollowingFirstGap, NoDiscard}
-use Rattle.rm_destination.specs.ItemLemmas.{numbers-in}
-use Rattle.rm_destination.specs.MessageLemmas.{numbers_of-with_message}
-use Rattle.rm_destination.specs.Messages.{without}
-use Rattle.rm_destination.specs.Messages.{with_message, sorted_onto, without_gap, numbers_of, contents_of, Item}
-use Rattle.rm_destination.specs.Messages.{gone_items, there_items, numbers_in}
-use Rattle.rm_destination.specs.Incoming.{inbox_of, is_loose, is_whole_by, last_number}
+use Rattle.rm_sides.specs.Destination.ItemLemmas.{numbers-in}
+use Rattle.rm_sides.specs.Destination.MessageLemmas.{numbers_of-with_message}
+use Rattle.rm_sides.specs.Destination.Messages.{without}
+use Rattle.rm_sides.specs.Destination.Messages.{with_message, sorted_onto, without_gap, numbers_of, contents_of, Item}
+use Rattle.rm_sides.specs.Destination.Messages.{gone_items, there_items, numbers_in}
+use Rattle.rm_sides.specs.Destination.Incoming.{inbox_of, is_loose, is_whole_by, last_number}
 use Rattle.record_snapshot.specs.Same.{AreNumbers, all_marked}
 
 -- what stands with a number

@@ -5,16 +5,16 @@ use Rattle.std.proofs.Common.{Some}
 use Rattle.std.specs.List.{flat_map}
 use Rattle.std.proofs.lemmas.Bool.{cases_Bool, true≢false}
 use Rattle.std.proofs.lemmas.List.{append-nil}
-use Rattle.ack_ranges.specs.Laws.{EndsAreRight, UnionHasBoth}
-use Rattle.ack_ranges.specs.declared.range.Range.{Range}
-use Rattle.ack_ranges.specs.Ranges.{count_of, in_ranges}
+use Rattle.rm_sides.specs.Ranges.Laws.{EndsAreRight, UnionHasBoth}
+use Rattle.rm_sides.specs.declared.ranges.range.Range.{Range}
+use Rattle.rm_sides.specs.Ranges.Ranges.{count_of, in_ranges}
 use Rattle.rm_base.specs.NumberSet.{greatest_of, has_number}
 use Rattle.rm_base.specs.Numbered.{numbered}
-use Rattle.rm_destination.specs.Incoming.{is_loose}
-use Rattle.rm_destination.specs.ItemLemmas.{has-more}
-use Rattle.rm_destination.specs.MessageLemmas.{once-more}
-use Rattle.rm_destination.specs.Messages.{AreOnce, without}
-use Rattle.rm_destination.specs.Messages.{numbers_of}
+use Rattle.rm_sides.specs.Destination.Incoming.{is_loose}
+use Rattle.rm_sides.specs.Destination.ItemLemmas.{has-more}
+use Rattle.rm_sides.specs.Destination.MessageLemmas.{once-more}
+use Rattle.rm_sides.specs.Destination.Messages.{AreOnce, without}
+use Rattle.rm_sides.specs.Destination.Messages.{numbers_of}
 use Rattle.record_batch.specs.Fact.{Fact, Dropped, Purged}
 use Rattle.sequence_table.specs.Words.{last_or}
 use Rattle.sequence_table.specs.Makers.{Maker, addresses_of, created, created_of, draws_of, maker, makers, makers_of}

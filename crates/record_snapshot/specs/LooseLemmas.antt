@@ -7,17 +7,17 @@ use Rattle.std.proofs.lemmas.List.Sums.{sum_by-cons}
 use Rattle.std.proofs.lemmas.Bool.{and_parts, cases_Bool, eqb-true, false≢true, true≢false}
 use Rattle.std.proofs.lemmas.Bool.Decides.{nat_tests}
 use Rattle.std.proofs.lemmas.List.{append-nil, take-append-drop}
-use Rattle.ack_ranges.specs.Changes.{with_range}
-use Rattle.ack_ranges.specs.Laws.{RangeIsAdded, UnionHasBoth}
-use Rattle.ack_ranges.specs.declared.range.Range.{Range}
-use Rattle.ack_ranges.specs.Ranges.{IsCanonical, RisesFrom, count_of, in_ranges, is_between, size_of}
+use Rattle.rm_sides.specs.Ranges.Changes.{with_range}
+use Rattle.rm_sides.specs.Ranges.Laws.{RangeIsAdded, UnionHasBoth}
+use Rattle.rm_sides.specs.declared.ranges.range.Range.{Range}
+use Rattle.rm_sides.specs.Ranges.Ranges.{IsCanonical, RisesFrom, count_of, in_ranges, is_between, size_of}
 use Rattle.rm_base.specs.Message.{max_number}
 use Rattle.rm_base.specs.NumberSet.{has_number}
 use Rattle.rm_base.specs.declared.message.Payload.{Payload}
-use Rattle.rm_destination.specs.ItemLemmas.{has-more, has_number-run, length-numbers_in, numbers-in}
-use Rattle.rm_destination.specs.LooseLemmas.{AreMessageNumbers, are-first, are-rest, take-past, within-from}
-use Rattle.rm_destination.specs.Messages.{AreOnce, without}
-use Rattle.rm_destination.specs.Messages.{numbers_in, numbers_of, ranges_onto, run_of}
+use Rattle.rm_sides.specs.Destination.ItemLemmas.{has-more, has_number-run, length-numbers_in, numbers-in}
+use Rattle.rm_sides.specs.Destination.LooseLemmas.{AreMessageNumbers, are-first, are-rest, take-past, within-from}
+use Rattle.rm_sides.specs.Destination.Messages.{AreOnce, without}
+use Rattle.rm_sides.specs.Destination.Messages.{numbers_in, numbers_of, ranges_onto, run_of}
 use Rattle.record_batch.specs.Fact.{Fact, Received, Consumed, Purged}
 use Rattle.sequence_table.specs.Destinations.{held, purged, purged_of, received, received_of}
 use Rattle.sequence_table.specs.Fits.{all_fit, fits, is_incoming_side}

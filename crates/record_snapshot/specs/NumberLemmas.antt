@@ -3,9 +3,9 @@ use Rattle.std.proofs.Common.{◌≡◌, ◌⊎◌, ℕ, ◌+◌, ◌≤◌, min
 use Rattle.std.proofs.Common.{sym, ◌∙◌, ap, subst, inl, inr, arith}
 use Rattle.std.specs.Prelude.{nat_le, nat_lt}
 use Rattle.std.proofs.lemmas.Bool.{and_from, and_parts, cases_Bool, cases_lt, le-leb, leb-true, ltb-false}
-use Rattle.ack_ranges.specs.Changes.{united, with_range}
-use Rattle.ack_ranges.specs.Ranges.{in_range, in_ranges, is_between}
-use Rattle.ack_ranges.specs.declared.range.Range.{Range}
+use Rattle.rm_sides.specs.Ranges.Changes.{united, with_range}
+use Rattle.rm_sides.specs.Ranges.Ranges.{in_range, in_ranges, is_between}
+use Rattle.rm_sides.specs.declared.ranges.range.Range.{Range}
 use Rattle.record_snapshot.specs.Same.{AreProper}
 
 same_bool : (x y : Bool) → (x ≡ true → y ≡ true) → (y ≡ true → x ≡ true) → x ≡ y

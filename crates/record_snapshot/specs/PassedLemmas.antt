@@ -6,18 +6,18 @@ use Rattle.std.proofs.lemmas.Bool.{and_from, and_parts, cases_Bool, eqb-true, fa
 use Rattle.std.proofs.lemmas.Bool.{leb-true}
 use Rattle.std.proofs.lemmas.Bool.Decides.{nat_tests}
 use Rattle.std.proofs.lemmas.List.{length-drop, length-map}
-use Rattle.ack_ranges.specs.Laws.{UnionHasBoth}
-use Rattle.ack_ranges.specs.declared.range.Range.{Range}
-use Rattle.ack_ranges.specs.Ranges.{count_of, in_ranges}
+use Rattle.rm_sides.specs.Ranges.Laws.{UnionHasBoth}
+use Rattle.rm_sides.specs.declared.ranges.range.Range.{Range}
+use Rattle.rm_sides.specs.Ranges.Ranges.{count_of, in_ranges}
 use Rattle.rm_base.specs.NumberSet.{greatest_of, has_number}
 use Rattle.rm_base.specs.declared.message.Behaviour.{Behaviour}
 use Rattle.rm_base.specs.declared.message.Behaviour.TheVariants.{EntireSequence, FollowingFirstGap, NoDiscard}
-use Rattle.rm_destination.specs.ItemLemmas.{length-numbers_in}
-use Rattle.rm_destination.specs.LooseLemmas.{inbox_of-loose, ranges_onto-some}
-use Rattle.rm_destination.specs.MessageLemmas.{has_number-sorted}
-use Rattle.rm_destination.specs.Messages.{contents_of, is_empty, numbers_in, numbers_of, ranges_onto, sorted_onto}
-use Rattle.rm_destination.specs.Messages.{Item, without, without_gap}
-use Rattle.rm_destination.specs.Incoming.{first_numbers, inbox_of, is_loose, is_whole_by}
+use Rattle.rm_sides.specs.Destination.ItemLemmas.{length-numbers_in}
+use Rattle.rm_sides.specs.Destination.LooseLemmas.{inbox_of-loose, ranges_onto-some}
+use Rattle.rm_sides.specs.Destination.MessageLemmas.{has_number-sorted}
+use Rattle.rm_sides.specs.Destination.Messages.{contents_of, is_empty, numbers_in, numbers_of, ranges_onto, sorted_onto}
+use Rattle.rm_sides.specs.Destination.Messages.{Item, without, without_gap}
+use Rattle.rm_sides.specs.Destination.Incoming.{first_numbers, inbox_of, is_loose, is_whole_by}
 use Rattle.record_batch.specs.Fact.{Fact}
 use Rattle.sequence_table.specs.Destinations.{behaviour, behaviour_of, cursor, held, inbox, items, messages, purged}
 use Rattle.sequence_table.specs.Destinations.{received, told}

@@ -4,18 +4,19 @@ use Rattle.std.proofs.Common.{length, map}
 use Rattle.std.proofs.Common.{refl, sym, ap, subst, ◌∙◌, arith, inl, inr, Some, None}
 use Rattle.std.specs.Prelude.{drop, ◌&&◌, ◌||◌}
 use Rattle.std.proofs.lemmas.Bool.{and_parts, cases_Bool, eqb-true, true≢false}
-use Rattle.ack_ranges.specs.declared.range.Range.{Range}
-use Rattle.ack_ranges.specs.Ranges.{count_of, in_ranges}
+use Rattle.rm_sides.specs.declared.ranges.range.Range.{Range}
+use Rattle.rm_sides.specs.Ranges.Ranges.{count_of, in_ranges}
 use Rattle.rm_base.specs.NumberSet.{greatest_of, has_number}
 use Rattle.rm_base.specs.declared.message.Behaviour.{Behaviour}
 use Rattle.rm_base.specs.declared.message.Behaviour.TheVariants.{EntireSequence, FollowingFirstGap, NoDiscard}
 use Rattle.rm_base.specs.declared.message.Payload.{Payload}
-use Rattle.rm_destination.specs.ItemLemmas.{has-more, length-numbers_in, numbers-in, numbers_of-both, numbers_of-there}
-use Rattle.rm_destination.specs.ItemLemmas.{there-sorted}
-use Rattle.rm_destination.specs.LooseLemmas.{inbox_of-loose}
-use Rattle.rm_destination.specs.Messages.{contents_of, numbers_of, without_gap, sorted_onto, Item, gone_items}
-use Rattle.rm_destination.specs.Messages.{numbers_in, there_items}
-use Rattle.rm_destination.specs.Incoming.{inbox_of, is_loose, is_whole_by, last_number}
+use Rattle.rm_sides.specs.Destination.ItemLemmas.{has-more, length-numbers_in, numbers-in, numbers_of-both}
+use Rattle.rm_sides.specs.Destination.ItemLemmas.{numbers_of-there}
+use Rattle.rm_sides.specs.Destination.ItemLemmas.{there-sorted}
+use Rattle.rm_sides.specs.Destination.LooseLemmas.{inbox_of-loose}
+use Rattle.rm_sides.specs.Destination.Messages.{contents_of, numbers_of, without_gap, sorted_onto, Item, gone_items}
+use Rattle.rm_sides.specs.Destination.Messages.{numbers_in, there_items}
+use Rattle.rm_sides.specs.Destination.Incoming.{inbox_of, is_loose, is_whole_by, last_number}
 use Rattle.record_batch.specs.Fact.{Fact}
 use Rattle.sequence_table.specs.Destinations.{behaviour, cursor, held, inbox, items, messages, purged, received}
 use Rattle.sequence_table.specs.Destinations.{released, told}

@@ -4,12 +4,12 @@ use Rattle.std.proofs.Common.{arith, Option, Some, None}
 use Rattle.std.specs.Prelude.{suc, is_none}
 use Rattle.std.specs.List.{flat_map}
 use Rattle.std.specs.Str.{bytes_eq}
-use Rattle.ack_ranges.specs.Changes.{united}
-use Rattle.ack_ranges.specs.Laws.{EndsAreRight, SameNumbersSameRanges, UnionHasBoth}
-use Rattle.ack_ranges.specs.Ranges.{count_of}
+use Rattle.rm_sides.specs.Ranges.Changes.{united}
+use Rattle.rm_sides.specs.Ranges.Laws.{EndsAreRight, SameNumbersSameRanges, UnionHasBoth}
+use Rattle.rm_sides.specs.Ranges.Ranges.{count_of}
 use Rattle.rm_base.specs.Numbered.{numbered}
-use Rattle.rm_destination.specs.Incoming.{is_past}
-use Rattle.rm_destination.specs.Messages.{any_true, is_empty}
+use Rattle.rm_sides.specs.Destination.Incoming.{is_past}
+use Rattle.rm_sides.specs.Destination.Messages.{any_true, is_empty}
 use Rattle.record_batch.specs.Fact.{Fact}
 use Rattle.sequence_table.specs.Words.{Text, at_seq, first_or, last_or}
 use Rattle.sequence_table.specs.Destinations.{close_of, closes, deadline_of, has_end, is_stopped}

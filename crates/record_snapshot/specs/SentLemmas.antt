@@ -8,10 +8,10 @@ use Rattle.std.proofs.lemmas.Bool.{and_parts, cases_Bool, eqb-true, leb-true}
 use Rattle.std.proofs.lemmas.Bool.Decides.{nat_tests}
 use Rattle.std.proofs.lemmas.Grind.{flat_map-append}
 use Rattle.std.proofs.lemmas.List.{append-nil}
-use Rattle.ack_ranges.specs.declared.range.Range.{Range}
-use Rattle.ack_ranges.specs.Ranges.{in_ranges}
+use Rattle.rm_sides.specs.declared.ranges.range.Range.{Range}
+use Rattle.rm_sides.specs.Ranges.Ranges.{in_ranges}
 use Rattle.rm_base.specs.Message.{max_number}
-use Rattle.rm_destination.specs.Messages.{is_empty}
+use Rattle.rm_sides.specs.Destination.Messages.{is_empty}
 use Rattle.record_batch.specs.Fact.{Fact, Accepted, Acked, Received, Consumed, Dropped, Purged}
 use Rattle.sequence_table.specs.Words.{Text, last_or}
 use Rattle.sequence_table.specs.Sources.{accepted, accepted_count, accepted_of, dropped, dropped_of}

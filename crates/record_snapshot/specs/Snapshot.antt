@@ -1,11 +1,11 @@
 -- A shorter list of records that says the same but for items that are gone.
 use Rattle.std.specs.Prelude.{ℕ, ◌==◌, ◌&&◌, nat_lt, nat_le, Bool, false, if◌then◌else◌, List, [], ◌∷◌, ◌++◌, length}
 use Rattle.std.specs.List.{list_any}
-use Rattle.ack_ranges.specs.declared.range.Range.{Range}
-use Rattle.ack_ranges.specs.Changes.{united}
-use Rattle.ack_ranges.specs.Ranges.{front_of, in_ranges}
-use Rattle.rm_destination.specs.Incoming.{first_numbers, is_loose}
-use Rattle.rm_destination.specs.Messages.{is_empty}
+use Rattle.rm_sides.specs.declared.ranges.range.Range.{Range}
+use Rattle.rm_sides.specs.Ranges.Changes.{united}
+use Rattle.rm_sides.specs.Ranges.Ranges.{front_of, in_ranges}
+use Rattle.rm_sides.specs.Destination.Incoming.{first_numbers, is_loose}
+use Rattle.rm_sides.specs.Destination.Messages.{is_empty}
 use Rattle.record_batch.specs.Fact.{Fact, Accepted, Acked, Received, Consumed, Dropped, Purged}
 use Rattle.sequence_table.specs.Sources.{accepted_count, acked}
 use Rattle.sequence_table.specs.Destinations.{behaviour, cursor, held, inbox}

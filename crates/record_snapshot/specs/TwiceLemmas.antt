@@ -7,16 +7,16 @@ use Rattle.std.specs.List.{flat_map, list_any, AllByRecursion}
 use Rattle.std.proofs.lemmas.Bool.{and_parts, cases_Bool, false≢true, leb-true, true≢false}
 use Rattle.std.proofs.lemmas.Bool.Decides.{nat_tests}
 use Rattle.std.proofs.lemmas.List.{append-nil}
-use Rattle.ack_ranges.specs.Changes.{united}
-use Rattle.ack_ranges.specs.Laws.{EndsAreRight, SameNumbersSameRanges, UnionHasBoth}
-use Rattle.ack_ranges.specs.declared.range.Range.{Range}
-use Rattle.ack_ranges.specs.Ranges.{count_of, front_of, in_ranges}
+use Rattle.rm_sides.specs.Ranges.Changes.{united}
+use Rattle.rm_sides.specs.Ranges.Laws.{EndsAreRight, SameNumbersSameRanges, UnionHasBoth}
+use Rattle.rm_sides.specs.declared.ranges.range.Range.{Range}
+use Rattle.rm_sides.specs.Ranges.Ranges.{count_of, front_of, in_ranges}
 use Rattle.rm_base.specs.declared.message.Payload.{Payload}
 use Rattle.rm_base.specs.Numbered.{numbered}
-use Rattle.rm_destination.specs.Incoming.{first_numbers, is_loose}
-use Rattle.rm_destination.specs.ItemLemmas.{length-numbers_in}
-use Rattle.rm_destination.specs.LooseLemmas.{ranges_onto-numbers_in, take-past}
-use Rattle.rm_destination.specs.Messages.{is_empty, numbers_in, numbers_of, ranges_onto}
+use Rattle.rm_sides.specs.Destination.Incoming.{first_numbers, is_loose}
+use Rattle.rm_sides.specs.Destination.ItemLemmas.{length-numbers_in}
+use Rattle.rm_sides.specs.Destination.LooseLemmas.{ranges_onto-numbers_in, take-past}
+use Rattle.rm_sides.specs.Destination.Messages.{is_empty, numbers_in, numbers_of, ranges_onto}
 use Rattle.record_batch.specs.Fact.{Fact, Accepted, Acked, Received, Consumed, Dropped, Purged}
 use Rattle.sequence_table.specs.Fits.{all_fit, fits}
 use Rattle.sequence_table.specs.Sources.{accepted_count, acked, dropped_of}

@@ -7,13 +7,13 @@ use Rattle.std.proofs.lemmas.Bool.{and_parts, and_from, cases_Bool, false≢true
 use Rattle.std.proofs.lemmas.Bool.Decides.{nat_tests}
 use Rattle.std.proofs.lemmas.Grind.{flat_map-append}
 use Rattle.std.proofs.lemmas.List.{append-nil}
-use Rattle.ack_ranges.specs.Changes.{united}
-use Rattle.ack_ranges.specs.Laws.{EndsAreRight, UnionHasBoth}
-use Rattle.ack_ranges.specs.declared.range.Range.{Range}
-use Rattle.ack_ranges.specs.Ranges.{RisesFrom, count_of, front_of, in_range, in_ranges, is_between}
+use Rattle.rm_sides.specs.Ranges.Changes.{united}
+use Rattle.rm_sides.specs.Ranges.Laws.{EndsAreRight, UnionHasBoth}
+use Rattle.rm_sides.specs.declared.ranges.range.Range.{Range}
+use Rattle.rm_sides.specs.Ranges.Ranges.{RisesFrom, count_of, front_of, in_range, in_ranges, is_between}
 use Rattle.rm_base.specs.Message.{max_number}
-use Rattle.rm_destination.specs.Incoming.{is_loose}
-use Rattle.rm_destination.specs.Messages.{is_empty, ranges_onto}
+use Rattle.rm_sides.specs.Destination.Incoming.{is_loose}
+use Rattle.rm_sides.specs.Destination.Messages.{is_empty, ranges_onto}
 use Rattle.record_batch.specs.Fact.{Fact, Acked}
 use Rattle.sequence_table.specs.Words.{last_or}
 use Rattle.sequence_table.specs.Sources.{accepted_count, acked, acked_of, dropped_of}

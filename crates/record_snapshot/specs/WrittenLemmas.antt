@@ -3,10 +3,10 @@ use Rattle.std.proofs.Common.{◌≡◌, ◌+◌, ℕ, ◌≤◌, true, List, []
 use Rattle.std.specs.Prelude.{nat_le}
 use Rattle.std.specs.List.{list_all}
 use Rattle.std.proofs.lemmas.Bool.{and_parts, leb-true}
-use Rattle.ack_ranges.specs.Changes.{united}
-use Rattle.ack_ranges.specs.Laws.{EndsAreRight, UnionHasBoth}
-use Rattle.ack_ranges.specs.declared.range.Range.{Range}
-use Rattle.ack_ranges.specs.Ranges.{IsCanonical, RisesFrom}
+use Rattle.rm_sides.specs.Ranges.Changes.{united}
+use Rattle.rm_sides.specs.Ranges.Laws.{EndsAreRight, UnionHasBoth}
+use Rattle.rm_sides.specs.declared.ranges.range.Range.{Range}
+use Rattle.rm_sides.specs.Ranges.Ranges.{IsCanonical, RisesFrom}
 use Rattle.rm_base.specs.Message.{max_number}
 use Rattle.record_batch.specs.Fact.{Fact}
 use Rattle.sequence_table.specs.Fits.{all_fit, is_up_to}

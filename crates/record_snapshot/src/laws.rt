@@ -13,7 +13,7 @@ ghost use Rattle.record_snapshot.specs.Same.{SnapshotSaysTheSame, SnapshotTwice,
 ghost use Rattle.record_snapshot.specs.Same.{UnackedIsEqual};
 ghost use Rattle.record_snapshot.specs.Snapshot.{snapshot};
 
-use ack_ranges::{ends_are_right, same_numbers_same_ranges, union_has_both};
+use rm_sides::ranges::{ends_are_right, same_numbers_same_ranges, union_has_both};
 
 /// The acknowledged numbers of a sequence are a set where each range has a number.
 pub fn sets_unite()

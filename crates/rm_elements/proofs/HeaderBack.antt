@@ -16,7 +16,7 @@ use Rattle.soap_values.specs.Outcome.{optional, each}
 use Rattle.soap_values.specs.EachLaws.{each_again}
 use Rattle.soap_values.specs.NumberLaws.{number_back, decimal_number}
 use Rattle.soap_values.specs.TextLaws.{text_back}
-use Rattle.ack_ranges.specs.declared.range.Range.{Range}
+use Rattle.rm_sides.specs.declared.ranges.range.Range.{Range}
 use Rattle.rm_elements.specs.Headers.{ident_of, identifier, number_of, message_number, numbered_in, bound_in}
 use Rattle.rm_elements.specs.Headers.{range_of, ack_of, ack_in, header_of}
 use Rattle.rm_elements.specs.Outcome.{rm}

@@ -8,7 +8,7 @@ use Rattle.soap_writer.specs.Plain.{chars_from}
 use Rattle.soap_nodes.specs.Good.{IsTagGood, IsGood, AreGood}
 use Rattle.soap_nodes.specs.Node.{tag_name, Node, Nodes, each_node}
 use Rattle.wsa_headers.specs.TextLaws.{text_writable}
-use Rattle.ack_ranges.specs.declared.range.Range.{Range}
+use Rattle.rm_sides.specs.declared.ranges.range.Range.{Range}
 use Rattle.rm_elements.specs.Texts.{tag_of, identifier_node, sequence_node, range_node, nack_node, final_nodes}
 use Rattle.rm_elements.specs.Texts.{kind_nodes, header_node}
 use Rattle.rm_elements.specs.Writable.{IsNumber, IsRange, IsSequenceWritable, IsKindWritable, IsHeaderWritable}

@@ -10,7 +10,7 @@ use Rattle.soap_profile.specs.declared.tree.Attr.{Attr}
 use Rattle.soap_values.specs.Children.{name_in, is_same, children_named, value_among}
 use Rattle.soap_values.specs.Outcome.{◌>>=◌, optional, single, each}
 use Rattle.soap_values.specs.Values.{trimmed, trimmed_text, whole_number, is_true, text_within}
-use Rattle.ack_ranges.specs.declared.range.Range.{Range}
+use Rattle.rm_sides.specs.declared.ranges.range.Range.{Range}
 use Rattle.rm_elements.specs.Outcome.{rm, mc, named}
 use Rattle.rm_elements.specs.declared.error.ElementError.{ElementError}
 use Rattle.rm_elements.specs.declared.error.ElementError.TheVariants.{Malformed, Rollover}

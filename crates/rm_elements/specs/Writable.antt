@@ -4,7 +4,7 @@ use Rattle.std.specs.List.{AllByRecursion}
 use Rattle.rm_base.specs.Message.{max_number}
 use Rattle.rm_base.specs.Text.{IsText}
 use Rattle.wsa_headers.specs.Writable.{IsEprWritable}
-use Rattle.ack_ranges.specs.declared.range.Range.{Range}
+use Rattle.rm_sides.specs.declared.ranges.range.Range.{Range}
 use Rattle.rm_elements.specs.Duration.{most_months, most_ms}
 use Rattle.rm_elements.specs.declared.header.AckBlock.{AckBlock}
 use Rattle.rm_elements.specs.declared.header.AckKind.{AckKind}

@@ -20,7 +20,7 @@ ghost use Rattle.rm_elements.specs.Headers.{
   is_false,
 };
 
-use ack_ranges::Range;
+use rm_sides::ranges::Range;
 use rm_base::{Ident, Items, MAX_NUMBER, Numbers};
 use soap_profile::{Element, Item};
 use soap_values::{

@@ -1,6 +1,6 @@
 //! The header blocks and body elements of WS-ReliableMessaging 1.2 and WS-MakeConnection 1.1, as values: trees are
 //! read, and values are written. It stands on endpoint references, `wsa_headers`, on ranges of message numbers,
-//! `ack_ranges`, and on the calendar of `jiff`. The layers above may use the contracts of the readers and writers, and
+//! `rm_sides::ranges`, and on the calendar of `jiff`. The layers above may use the contracts of the readers and writers, and
 //! the laws that what is written is read back, by `specs/`.
 #![tactic(auto)]
 

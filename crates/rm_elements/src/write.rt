@@ -51,7 +51,7 @@ ghost use Rattle.rm_elements.specs.Texts.{
 use crate::header::{AckBlock, AckKind, Header, SeqHeader};
 use crate::lifecycle::{CreateResponse, CreateSequence, Finish, Lifecycle, MakeConnection, Offer};
 use crate::tag::Tag;
-use ack_ranges::Range;
+use rm_sides::ranges::Range;
 use itoa::Buffer;
 use rm_base::{Behaviour, Blob, Ident, Lapse, Memory, Uri};
 use soap_nodes::{

@@ -19,7 +19,7 @@ use Rattle.node_tables.specs.Reads.{incoming_in, incoming_of}
 use Rattle.record_batch.specs.Fact.{Fact, Consumed as ConsumedFact}
 use Rattle.rm_base.specs.Numbered.{numbered}
 use Rattle.rm_base.specs.Outside.{AppendsFront, Stream}
-use Rattle.rm_destination.specs.Incoming.{Receiving, inbox as inbox_in}
+use Rattle.rm_sides.specs.Destination.Incoming.{Receiving, inbox as inbox_in}
 use Rattle.rm_disk.specs.Call.{Call, seen_of}
 use Rattle.rm_disk.specs.Image.{MayLeave, OnlyLeaves}
 use Rattle.rm_disk.specs.Told.{Told}

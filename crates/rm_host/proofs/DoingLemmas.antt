@@ -8,7 +8,7 @@ use Rattle.rm_base.specs.declared.outside.SinkError.{SinkError}
 use Rattle.rm_base.specs.declared.outside.SinkError.TheVariants as sink
 use Rattle.node_laws.specs.declared.answers.answer.Cause.TheVariants as cause
 use Rattle.rm_base.specs.declared.message.Behaviour.TheVariants.{FollowingFirstGap}
-use Rattle.rm_destination.specs.Incoming.{Receiving}
+use Rattle.rm_sides.specs.Destination.Incoming.{Receiving}
 use Rattle.rm_disk.specs.Told.{Told}
 use Rattle.rm_node.specs.Asked.{Asked, Close as Closes, End as Finishes, Tick}
 use Rattle.rm_serve.specs.Steps.{Place}

@@ -7,7 +7,7 @@ use Rattle.std.proofs.lemmas.List.{at_drop_more, drop_all, get_or-take, length-t
 use Rattle.std.proofs.lemmas.Option.{slice_get-get_or}
 use Rattle.rm_base.specs.Numbered.{numbered}
 use Rattle.rm_base.specs.NumberSetLemmas.{lt-or-le}
-use Rattle.rm_destination.specs.Messages.{Item, item_at, payload_in}
+use Rattle.rm_sides.specs.Destination.Messages.{Item, item_at, payload_in}
 use Rattle.rm_host.specs.Sequences.{item_lines, passed_lines, there_line}
 
 -- the item with number k + 1 stands at place k

@@ -1,16 +1,16 @@
 -- What commands look for in the tables of a node.
 use Rattle.std.specs.Prelude.{◌≡◌, ℕ, ◌+◌, ◌<◌, ◌≤◌, Bool, true, false, ◌&&◌, List, ◌∷◌, [], ◌++◌, Option, Some, None}
 use Rattle.std.specs.Prelude.{length, take, drop, Result, Ok, Err, bytes_eq, codes, decimal, if◌then◌else◌, nat_lt}
-use Rattle.ack_ranges.specs.Ranges.{in_ranges}
+use Rattle.rm_sides.specs.Ranges.Ranges.{in_ranges}
 use Rattle.node_laws.specs.declared.answers.answer.Cause.TheVariants as cause
 use Rattle.node_tables.specs.Peers.{Address, Peer, Reference, peer}
 use Rattle.node_tables.specs.Reads.{incoming_in, outgoing_in}
 use Rattle.record_batch.specs.Fact.{Fact}
-use Rattle.rm_destination.specs.Incoming.{Receiving, inbox}
-use Rattle.rm_destination.specs.Messages.{Item}
-use Rattle.rm_source.specs.Outgoing.{Sending}
-use Rattle.rm_source.specs.declared.phase.OutPhase.{OutPhase}
-use Rattle.rm_source.specs.declared.phase.OutPhase.TheVariants as out
+use Rattle.rm_sides.specs.Destination.Incoming.{Receiving, inbox}
+use Rattle.rm_sides.specs.Destination.Messages.{Item}
+use Rattle.rm_sides.specs.Source.Outgoing.{Sending}
+use Rattle.rm_sides.specs.declared.source.phase.OutPhase.{OutPhase}
+use Rattle.rm_sides.specs.declared.source.phase.OutPhase.TheVariants as out
 use Rattle.sequence_table.specs.Makers.{makers}
 use Rattle.rm_host.specs.Texts.{item_line}
 use Rattle.rm_host.specs.declared.end.End.{End}

@@ -2,7 +2,7 @@
 ghost use Rattle.std.specs.Prelude.{◌≡◌, ◌≢◌, ◌<◌, ◌^◌, ◌⊎◌, [], List, Result, Err, IfErr, IfOk, OnOk, IsTrue, false};
 ghost use Rattle.http_endpoint.specs.declared.media.Media.TheVariants.{Soap12};
 ghost use Rattle.rm_base.specs.declared.message.Behaviour.TheVariants.{FollowingFirstGap};
-ghost use Rattle.rm_destination.specs.Incoming.{inbox as inbox_in};
+ghost use Rattle.rm_sides.specs.Destination.Incoming.{inbox as inbox_in};
 ghost use Rattle.rm_disk.specs.Call.{seen_of};
 ghost use Rattle.rm_node.specs.Asked.{Close, End as Finish, Tick};
 ghost use Rattle.rm_serve.specs.Steps.{IsUp, MakesAll, Step, place_of};
@@ -21,7 +21,7 @@ use crate::laws::a_command_leaves_its_records;
 use node_laws::answers::Cause;
 use node_tables::Tables;
 use rm_base::{Blob, Clock, Memory, Uri, push_decimal};
-use rm_destination::Incoming;
+use rm_sides::destination::Incoming;
 use rm_disk::Disk;
 use rm_link::Link;
 use rm_node::{Node, Outs};

@@ -3,7 +3,7 @@ ghost use Rattle.std.specs.Prelude.{◌≡◌, ◌⊎◌, ◌≤◌, Err, IfErr,
 ghost use Rattle.std.specs.Io.KnownBytes.{Appends};
 ghost use Rattle.node_tables.specs.Reads.{incoming_in};
 ghost use Rattle.rm_base.specs.Outside.{AppendsFront};
-ghost use Rattle.rm_destination.specs.Incoming.{inbox as inbox_in};
+ghost use Rattle.rm_sides.specs.Destination.Incoming.{inbox as inbox_in};
 ghost use Rattle.sequence_table.specs.Destinations.{cursor as cursor_in};
 ghost use Rattle.rm_host.specs.Consumption.{Consumption};
 ghost use Rattle.rm_host.specs.Ends.{HasReason, Prints, faults_of, is_disk_fault, is_link_fault, is_of_input, is_outer};
@@ -18,7 +18,7 @@ use node_laws::answers::Cause;
 use node_tables::Tables;
 use node_tables::laws::an_incoming_sequence_is_as_recorded;
 use rm_base::{Blob, Clock, Memory, Sink, SinkError, push_decimal, write_all};
-use rm_destination::Incoming;
+use rm_sides::destination::Incoming;
 use rm_disk::Disk;
 use rm_link::Link;
 use std::alloc::Global;

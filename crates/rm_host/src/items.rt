@@ -1,12 +1,12 @@
 //! The lines of the items of an inbox.
 ghost use Rattle.std.specs.Prelude.{◌≡◌, ◌≤◌, ◌++◌, length, OnOk};
 ghost use Rattle.std.specs.Option.{option_copied};
-ghost use Rattle.rm_destination.specs.Incoming.{inbox};
+ghost use Rattle.rm_sides.specs.Destination.Incoming.{inbox};
 ghost use Rattle.rm_host.specs.Sequences.{item_lines, passed_lines, there_line};
 ghost use Rattle.rm_host.specs.Texts.{item_line};
 
 use rm_base::{Blob, Memory, Payload, push_decimal, push_hex};
-use rm_destination::Incoming;
+use rm_sides::destination::Incoming;
 
 /// Appends the items of an inbox, but for those that are gone, which it passes over.
 pub(crate) fn push_inbox(text: &mut Blob, seq: u32, incoming: &Incoming) -> Result<(), Memory>

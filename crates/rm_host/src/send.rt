@@ -24,7 +24,7 @@ use rm_base::{Blob, Clock, Memory, ReadError, Source, Uri, push_decimal, read_up
 use rm_disk::Disk;
 use rm_link::Link;
 use rm_node::{Node, Outs};
-use rm_source::OutPhase;
+use rm_sides::source::OutPhase;
 use std::alloc::Global;
 
 /// Reads a payload, and sends it to an address: on the first sequence to it that is open or asked for, or else on a new

@@ -15,8 +15,8 @@ use Rattle.rm_base.specs.declared.message.Behaviour.TheVariants.{NoDiscard, Enti
 use Rattle.rm_base.specs.declared.message.Cause.TheVariants.{Peer}
 use Rattle.rm_base.specs.declared.message.Payload.{Payload}
 use Rattle.record_batch.specs.Fact.{Fact, Received, Closed, Ended}
-use Rattle.rm_destination.specs.Incoming.{inbox_of}
-use Rattle.rm_destination.specs.Messages.{contents_of, is_empty, sorted_onto, with_message, without_gap}
+use Rattle.rm_sides.specs.Destination.Incoming.{inbox_of}
+use Rattle.rm_sides.specs.Destination.Messages.{contents_of, is_empty, sorted_onto, with_message, without_gap}
 use Rattle.sequence_table.specs.Words.{at_seq}
 use Rattle.sequence_table.specs.Makers.{Maker, makers, makers_of, maker}
 use Rattle.sequence_table.specs.Destinations.{behaviour, behaviour_of, close_of, closes, cursor, cursor_of, held}

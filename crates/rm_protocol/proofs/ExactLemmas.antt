@@ -6,9 +6,9 @@ use Rattle.std.proofs.Common.{append-nil, append_assoc}
 use Rattle.std.specs.Prelude.{Option, Some, None, slice_get}
 use Rattle.std.proofs.lemmas.Bool.{and_parts, eqb-true, false≢true}
 use Rattle.std.proofs.lemmas.Bool.Decides.{nat_tests}
-use Rattle.ack_ranges.specs.declared.range.Range.{Range}
-use Rattle.ack_ranges.specs.Changes.{united, with_range}
-use Rattle.ack_ranges.specs.Ranges.{in_range, in_ranges}
+use Rattle.rm_sides.specs.declared.ranges.range.Range.{Range}
+use Rattle.rm_sides.specs.Ranges.Changes.{united, with_range}
+use Rattle.rm_sides.specs.Ranges.Ranges.{in_range, in_ranges}
 use Rattle.rm_timers.specs.declared.timers.Key.{Key}
 use Rattle.key_timers.specs.Waits.{Wait, same_key, has_key, keys_of, at_key, without, moved_last, begun, urged, sent}
 use Rattle.key_timers.specs.Waits.{begin_all}
@@ -23,7 +23,7 @@ use Rattle.sequence_table.specs.Makers.{Maker, Outgoing, Offered, Incoming, Take
 use Rattle.sequence_table.specs.Sources.{accepted_count, acked, first_phase, is_sending, marks, out_ident, phase}
 use Rattle.sequence_table.specs.Words.{at_seq, last_or}
 use Rattle.sequence_table.specs.Makers.{ident_in}
-use Rattle.rm_source.specs.Outgoing.{Sending, accepted_count as count_of}
+use Rattle.rm_sides.specs.Source.Outgoing.{Sending, accepted_count as count_of}
 use Rattle.sequence_table.specs.Fits.{fits, all_fit}
 use Rattle.sequence_table.specs.Told.{sending}
 use Rattle.rm_protocol.specs.FitInduction.{creating-accepts-none}

@@ -1,8 +1,8 @@
 -- What an acknowledgement with Final does to its source.
 use Rattle.std.proofs.Common.{◌≡◌, ◌∙◌, ℕ, cond, List, [], ◌∷◌, ◌++◌, Some, refl, ap}
 use Rattle.std.proofs.lemmas.Bool.{eq-eqb}
-use Rattle.rm_source.specs.declared.phase.OutPhase.{OutPhase}
-use Rattle.rm_source.specs.declared.phase.OutPhase.TheVariants as out
+use Rattle.rm_sides.specs.declared.source.phase.OutPhase.{OutPhase}
+use Rattle.rm_sides.specs.declared.source.phase.OutPhase.TheVariants as out
 use Rattle.record_batch.specs.Fact.{Fact, ClosedOut}
 use Rattle.sequence_table.specs.Words.{last_or}
 use Rattle.sequence_table.specs.Sources.{first_phase, mark_of, marks, out_ident, phase}

@@ -7,8 +7,8 @@ use Rattle.std.specs.Prelude.{Option, Some, None, is_none, IfSome, Result, Ok, E
 use Rattle.std.specs.List.{AllByRecursion, flat_map, list_all, list_any}
 use Rattle.std.specs.Option.{option_to_list}
 use Rattle.std.proofs.lemmas.List.Concat.{flat_map-append}
-use Rattle.ack_ranges.specs.declared.range.Range.{Range}
-use Rattle.ack_ranges.specs.Changes.{united, covers_all}
+use Rattle.rm_sides.specs.declared.ranges.range.Range.{Range}
+use Rattle.rm_sides.specs.Ranges.Changes.{united, covers_all}
 use Rattle.rm_base.specs.Limits.{most_sequences, most_unacked, payload_bytes, window}
 use Rattle.rm_base.specs.Message.{max_number}
 use Rattle.rm_base.specs.Numbered.{numbered}
@@ -22,8 +22,8 @@ use Rattle.rm_base.specs.declared.lapse.Lapse.{Lapse}
 use Rattle.rm_elements.specs.declared.lifecycle.CreateResponse.{CreateResponse}
 use Rattle.rm_elements.specs.declared.lifecycle.CreateSequence.{CreateSequence}
 use Rattle.rm_elements.specs.declared.lifecycle.Lifecycle.TheVariants as life
-use Rattle.rm_source.specs.declared.phase.OutPhase.{OutPhase}
-use Rattle.rm_source.specs.declared.phase.OutPhase.TheVariants as out
+use Rattle.rm_sides.specs.declared.source.phase.OutPhase.{OutPhase}
+use Rattle.rm_sides.specs.declared.source.phase.OutPhase.TheVariants as out
 use Rattle.rm_message.specs.declared.message.Body.{Body}
 use Rattle.rm_message.specs.declared.message.Message.{Message}
 use Rattle.rm_message.specs.declared.refusal.FaultKind.{FaultKind}
@@ -46,8 +46,8 @@ use Rattle.sequence_table.specs.Find.{find_incoming, find_outgoing, find_creatin
 use Rattle.sequence_table.specs.Find.{is_offered, find_from, peer}
 use Rattle.sequence_table.specs.Fits.{is_outgoing_side, is_incoming_side, follows, follows_at, is_up_to, fits}
 use Rattle.sequence_table.specs.Fits.{all_fit, is_no_moment, offer_fits, has_places}
-use Rattle.rm_destination.specs.Incoming.{is_past}
-use Rattle.rm_destination.specs.Messages.{any_true}
+use Rattle.rm_sides.specs.Destination.Incoming.{is_past}
+use Rattle.rm_sides.specs.Destination.Messages.{any_true}
 use Rattle.sequence_table.specs.Destinations.{held, front, close_of, closes, is_stopped, has_end}
 use Rattle.sequence_table.specs.Destinations.{cursor, inbox, is_over, is_ended, deadline_of}
 use Rattle.rm_protocol.specs.Verdict.{tests, is_above, verdict, has_room, is_invalid, is_invalid_at, refuses_create}

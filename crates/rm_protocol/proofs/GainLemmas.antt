@@ -12,7 +12,7 @@ use Rattle.rm_message.specs.declared.message.Message.{Message}
 use Rattle.rm_message.specs.declared.refusal.FaultKind.{FaultKind}
 use Rattle.rm_message.specs.declared.refusal.Refusal.{Refusal}
 use Rattle.record_batch.specs.Fact.{Fact, Creating, Accepted, Closing, Closed, Consumed, Ending, Ended}
-use Rattle.rm_destination.specs.Incoming.{is_past}
+use Rattle.rm_sides.specs.Destination.Incoming.{is_past}
 use Rattle.sequence_table.specs.Makers.{Maker, Outgoing, Offered, Incoming, Taken, counter, maker, makers}
 use Rattle.sequence_table.specs.Sources.{accepted_count, all_unacked, phase, unacked, out_ident}
 use Rattle.sequence_table.specs.Destinations.{cursor, deadline_of, has_end, inbox, is_over}

@@ -5,8 +5,8 @@ use Rattle.std.proofs.Common.{length-append, inl, inr}
 use Rattle.std.specs.Prelude.{Option, Some, None, slice_get}
 use Rattle.std.specs.List.{AllByRecursion}
 use Rattle.std.proofs.lemmas.Bool.{eqb-true}
-use Rattle.ack_ranges.specs.declared.range.Range.{Range}
-use Rattle.ack_ranges.specs.Ranges.{in_ranges}
+use Rattle.rm_sides.specs.declared.ranges.range.Range.{Range}
+use Rattle.rm_sides.specs.Ranges.Ranges.{in_ranges}
 use Rattle.rm_base.specs.Message.{max_number}
 use Rattle.rm_base.specs.Numbered.{numbered}
 use Rattle.rm_base.specs.NumberSet.{has_number}
@@ -14,15 +14,16 @@ use Rattle.rm_base.specs.declared.message.Behaviour.{Behaviour}
 use Rattle.rm_base.specs.declared.message.Cause.TheVariants.{Peer}
 use Rattle.rm_base.specs.declared.message.Payload.{Payload}
 use Rattle.record_batch.specs.Fact.{Fact, Created, Granted, Acked, Received, Closed, Ended, Dropped}
-use Rattle.rm_destination.specs.Messages.{is_empty, sorted_onto, with_message, without_gap, numbers_of, contents_of}
+use Rattle.rm_sides.specs.Destination.Messages.{is_empty, sorted_onto, with_message, without_gap, numbers_of}
+use Rattle.rm_sides.specs.Destination.Messages.{contents_of}
 use Rattle.sequence_table.specs.Words.{Text}
 use Rattle.sequence_table.specs.Idents.{issue}
 use Rattle.sequence_table.specs.Makers.{Maker, Outgoing, Offered, Incoming, Taken, makers, makers_of, maker, counter}
 use Rattle.sequence_table.specs.Makers.{number, created_from, ident_in}
 use Rattle.sequence_table.specs.Sources.{accepted, acked, marks}
-use Rattle.rm_destination.specs.Incoming.{inbox_of, is_loose}
+use Rattle.rm_sides.specs.Destination.Incoming.{inbox_of, is_loose}
 use Rattle.sequence_table.specs.Destinations.{received, received_of, told, behaviour}
-use Rattle.rm_destination.specs.Incoming.{is_whole, is_whole_by, last_number as last_told}
+use Rattle.rm_sides.specs.Destination.Incoming.{is_whole, is_whole_by, last_number as last_told}
 use Rattle.sequence_table.specs.Destinations.{texts}
 use Rattle.sequence_table.specs.Find.{IsOutgoing, IsIncoming, incoming_of}
 use Rattle.rm_protocol.specs.Sound.{IsHeld, IsGranted, IsAgreed, IsSourced, AreKept, IsTold, IsWith, IfWith}

@@ -14,8 +14,8 @@ use Rattle.rm_elements.specs.declared.lifecycle.CreateResponse.{CreateResponse}
 use Rattle.rm_elements.specs.declared.lifecycle.CreateSequence.{CreateSequence}
 use Rattle.rm_elements.specs.declared.lifecycle.Lifecycle.TheVariants as life
 use Rattle.rm_elements.specs.declared.lifecycle.Offer.{Offer}
-use Rattle.rm_source.specs.declared.phase.OutPhase.{OutPhase}
-use Rattle.rm_source.specs.declared.phase.OutPhase.TheVariants as out
+use Rattle.rm_sides.specs.declared.source.phase.OutPhase.{OutPhase}
+use Rattle.rm_sides.specs.declared.source.phase.OutPhase.TheVariants as out
 use Rattle.rm_message.specs.declared.message.Body.{Body}
 use Rattle.rm_message.specs.declared.message.Body.TheVariants as body
 use Rattle.rm_message.specs.declared.message.Message.{Message}
@@ -27,7 +27,7 @@ use Rattle.sequence_table.specs.Makers.{maker, makers}
 use Rattle.sequence_table.specs.Sources.{acked, is_sending, phase}
 use Rattle.sequence_table.specs.Destinations.{held, front, has_end, is_ended, is_over}
 use Rattle.sequence_table.specs.Find.{find_incoming, find_outgoing, find_grant, find_creating, is_offered}
-use Rattle.ack_ranges.specs.Changes.{covers_all, united}
+use Rattle.rm_sides.specs.Ranges.Changes.{covers_all, united}
 use Rattle.soap_profile.specs.Tree.{Element}
 use Rattle.soap_profile.specs.declared.name.Expanded.{Expanded}
 use Rattle.rm_protocol.specs.Detail.{named_in}

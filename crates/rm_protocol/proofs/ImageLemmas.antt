@@ -11,9 +11,9 @@ use Rattle.record_snapshot.specs.FactLemmas.{behaviour_same, not-ordered}
 use Rattle.record_snapshot.specs.PastLemmas.{from-one, held-whole, inbox-past}
 use Rattle.record_snapshot.specs.Same.{AreNumbers, gone_count}
 use Rattle.rm_base.specs.Numbered.{numbered}
-use Rattle.rm_destination.specs.Incoming.{is_loose}
-use Rattle.rm_destination.specs.LooseLemmas.{inbox_of-loose}
-use Rattle.rm_destination.specs.Messages.{AreOnce, contents_of, is_empty, numbers_of}
+use Rattle.rm_sides.specs.Destination.Incoming.{is_loose}
+use Rattle.rm_sides.specs.Destination.LooseLemmas.{inbox_of-loose}
+use Rattle.rm_sides.specs.Destination.Messages.{AreOnce, contents_of, is_empty, numbers_of}
 use Rattle.sequence_table.specs.Words.{Text, at_seq}
 use Rattle.sequence_table.specs.Idents.{IssuesOnce}
 use Rattle.sequence_table.specs.Makers.{counter, maker}

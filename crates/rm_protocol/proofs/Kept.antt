@@ -3,14 +3,14 @@ use Rattle.std.proofs.Common.{◌≡◌, ℕ, ◌+◌, ◌-◌, ◌||◌, Bool, 
 use Rattle.std.proofs.Common.{refl, sym, ap, ◌∙◌, subst, arith, zero, suc, append-nil, append_assoc}
 use Rattle.std.specs.Prelude.{Option, Some, slice_get}
 use Rattle.std.specs.List.{flat_map}
-use Rattle.ack_ranges.specs.declared.range.Range.{Range}
-use Rattle.ack_ranges.specs.Ranges.{in_range, in_ranges}
+use Rattle.rm_sides.specs.declared.ranges.range.Range.{Range}
+use Rattle.rm_sides.specs.Ranges.Ranges.{in_range, in_ranges}
 use Rattle.rm_base.specs.Numbered.{numbered}
 use Rattle.rm_base.specs.NumberSet.{has_number}
-use Rattle.rm_destination.specs.Messages.{gone_items, numbers_in, numbers_of, there_items}
+use Rattle.rm_sides.specs.Destination.Messages.{gone_items, numbers_in, numbers_of, there_items}
 use Rattle.record_batch.specs.Fact.{Fact, Made, Received, Dropped, Purged}
 use Rattle.record_snapshot.specs.KeepLemmas.{kept-by-one-more}
-use Rattle.rm_destination.specs.ItemLemmas.{numbers_of-both}
+use Rattle.rm_sides.specs.Destination.ItemLemmas.{numbers_of-both}
 use Rattle.record_snapshot.specs.Same.{IsLive, IsNewIn}
 use Rattle.sequence_table.specs.Words.{Text, first_or, last_or}
 use Rattle.sequence_table.specs.Idents.{issue}

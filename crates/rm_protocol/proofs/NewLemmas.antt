@@ -7,7 +7,7 @@ use Rattle.std.proofs.lemmas.Bool.{eqb-true}
 use Rattle.std.proofs.lemmas.Bool.Decides.{nat_tests}
 use Rattle.std.proofs.lemmas.List.{map-append}
 use Rattle.std.proofs.lemmas.List.Concat.{flat_map-append}
-use Rattle.ack_ranges.specs.declared.range.Range.{Range}
+use Rattle.rm_sides.specs.declared.ranges.range.Range.{Range}
 use Rattle.rm_base.specs.Limits.{window}
 use Rattle.rm_base.specs.Numbered.{numbered}
 use Rattle.rm_base.specs.NumberSet.{has_number}
@@ -17,25 +17,26 @@ use Rattle.rm_elements.specs.declared.header.AckBlock.{AckBlock}
 use Rattle.rm_message.specs.declared.message.Message.{Message}
 use Rattle.record_batch.specs.Fact.{Fact, Acked, Received, ClosedOut}
 use Rattle.record_snapshot.specs.Same.{AreNumbers}
-use Rattle.rm_destination.specs.Messages.{Item, contents_of, gone_items, is_empty, items_of, numbers_in, sorted_onto}
-use Rattle.rm_destination.specs.Messages.{there_items, with_message, without_gap}
+use Rattle.rm_sides.specs.Destination.Messages.{Item, contents_of, gone_items, is_empty, items_of, numbers_in}
+use Rattle.rm_sides.specs.Destination.Messages.{sorted_onto}
+use Rattle.rm_sides.specs.Destination.Messages.{there_items, with_message, without_gap}
 use Rattle.sequence_table.specs.Words.{Text, at_seq, first_or}
-use Rattle.rm_destination.specs.Messages.{numbers_of}
+use Rattle.rm_sides.specs.Destination.Messages.{numbers_of}
 use Rattle.sequence_table.specs.Makers.{makers, makers_of, maker, nodes_of, number}
 use Rattle.sequence_table.specs.Sources.{acked, is_sending, phase}
 use Rattle.sequence_table.specs.Destinations.{received, received_of, held, close_of, told, front, is_over, items}
-use Rattle.rm_destination.specs.Incoming.{inbox_of, is_loose}
-use Rattle.rm_destination.specs.LooseLemmas.{inbox_of-loose}
+use Rattle.rm_sides.specs.Destination.Incoming.{inbox_of, is_loose}
+use Rattle.rm_sides.specs.Destination.LooseLemmas.{inbox_of-loose}
 use Rattle.sequence_table.specs.Destinations.{is_stopped, messages, inbox, behaviour, behaviour_of, purged, purged_of}
 use Rattle.sequence_table.specs.Find.{find_from, find_incoming, find_outgoing, is_incoming}
 use Rattle.rm_base.specs.declared.message.Behaviour.TheVariants.{FollowingFirstGap}
-use Rattle.ack_ranges.specs.Changes.{covers_all, united}
+use Rattle.rm_sides.specs.Ranges.Changes.{covers_all, united}
 use Rattle.rm_protocol.specs.Rows.{then_row, ranges_of, ack_at, ack_row, final_at, final_row, ack_rows, data_row_at}
 use Rattle.rm_protocol.specs.Rows.{data_row, body_row, rows}
 use Rattle.rm_protocol.specs.Recorded.{IsNew}
 use Rattle.rm_protocol.specs.Terms.{Terms}
 use Rattle.rm_protocol.proofs.ListLemmas.{All-append, numbered-next}
-use Rattle.rm_destination.specs.Incoming.{is_past}
+use Rattle.rm_sides.specs.Destination.Incoming.{is_past}
 use Rattle.sequence_table.specs.Destinations.{deadline_of}
 
 -- what acknowledgements bring says nothing of incoming sequences

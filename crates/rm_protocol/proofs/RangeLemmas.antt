@@ -2,13 +2,13 @@
 use Rattle.std.proofs.Common.{◌≡◌, ◌⊎◌, ℕ, ◌+◌, ◌≤◌, ◌==◌, ◌||◌, nat_lt, min, max, cond, Bool, true, false, List, []}
 use Rattle.std.proofs.Common.{◌∷◌, refl, arith, inl, inr}
 use Rattle.std.proofs.lemmas.Bool.Decides.{nat_tests}
-use Rattle.ack_ranges.specs.declared.range.Range.{Range}
-use Rattle.ack_ranges.specs.Ranges.{is_between, in_range, in_ranges}
-use Rattle.ack_ranges.specs.Changes.{with_range, united}
+use Rattle.rm_sides.specs.declared.ranges.range.Range.{Range}
+use Rattle.rm_sides.specs.Ranges.Ranges.{is_between, in_range, in_ranges}
+use Rattle.rm_sides.specs.Ranges.Changes.{with_range, united}
 use Rattle.rm_base.specs.NumberSet.{has_number}
 use Rattle.record_snapshot.specs.NumberLemmas.{put}
 use Rattle.record_snapshot.specs.Same.{AreProper}
-use Rattle.rm_destination.specs.Messages.{ranges_onto}
+use Rattle.rm_sides.specs.Destination.Messages.{ranges_onto}
 use Rattle.rm_protocol.specs.Messages.{kind_of}
 use Rattle.rm_protocol.specs.Rows.{ranges_of}
 

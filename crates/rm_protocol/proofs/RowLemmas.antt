@@ -14,15 +14,15 @@ use Rattle.rm_elements.specs.declared.lifecycle.CreateResponse.{CreateResponse}
 use Rattle.rm_elements.specs.declared.lifecycle.CreateSequence.{CreateSequence}
 use Rattle.rm_elements.specs.declared.lifecycle.Lifecycle.TheVariants as life
 use Rattle.rm_elements.specs.declared.lifecycle.Offer.{Offer}
-use Rattle.rm_source.specs.declared.phase.OutPhase.{OutPhase}
-use Rattle.rm_source.specs.declared.phase.OutPhase.TheVariants as out
+use Rattle.rm_sides.specs.declared.source.phase.OutPhase.{OutPhase}
+use Rattle.rm_sides.specs.declared.source.phase.OutPhase.TheVariants as out
 use Rattle.rm_message.specs.declared.message.Body.{Body}
 use Rattle.rm_message.specs.declared.message.Body.TheVariants as body
 use Rattle.rm_message.specs.declared.message.Message.{Message}
 use Rattle.wsa_headers.specs.declared.endpoint.Epr.{Epr}
 use Rattle.record_batch.specs.declared.record.PeerOffer.{PeerOffer}
 use Rattle.record_batch.specs.Fact.{Fact, Created, Acked, Received, ClosedOut, Closed, Ended, Failed}
-use Rattle.rm_destination.specs.Messages.{is_empty}
+use Rattle.rm_sides.specs.Destination.Messages.{is_empty}
 use Rattle.sequence_table.specs.Words.{Text}
 use Rattle.sequence_table.specs.Idents.{issue}
 use Rattle.sequence_table.specs.Makers.{Maker, Outgoing, makers, maker, number, created, seq_in}
@@ -33,7 +33,7 @@ use Rattle.sequence_table.specs.Find.{find_creating, is_incoming, is_issued, is_
 use Rattle.rm_protocol.specs.Sound.{IsAsked, IsAccepted, IsGranted, IsFinal, SaysData, SaysBlock, SaysCreate}
 use Rattle.rm_protocol.specs.Sound.{SaysResponse, SaysFinal, Says, IsTold, IfWith, Justified, Owns, Fresh, Allows}
 use Rattle.rm_protocol.specs.Sound.{Keeps}
-use Rattle.ack_ranges.specs.Changes.{covers_all, united}
+use Rattle.rm_sides.specs.Ranges.Changes.{covers_all, united}
 use Rattle.soap_profile.specs.Tree.{Element}
 use Rattle.soap_profile.specs.declared.name.Expanded.{Expanded}
 use Rattle.std.specs.Str.{bytes_eq}

@@ -5,15 +5,15 @@ use Rattle.std.specs.Prelude.{◌⊎◌, Option, Some, None, IfSome}
 use Rattle.std.specs.List.{AllByRecursion, flat_map}
 use Rattle.std.proofs.lemmas.Bool.{eqb-true}
 use Rattle.std.proofs.lemmas.Bool.Decides.{nat_tests}
-use Rattle.ack_ranges.specs.declared.range.Range.{Range}
-use Rattle.ack_ranges.specs.Ranges.{in_ranges}
+use Rattle.rm_sides.specs.declared.ranges.range.Range.{Range}
+use Rattle.rm_sides.specs.Ranges.Ranges.{in_ranges}
 use Rattle.rm_base.specs.NumberSet.{has_number}
 use Rattle.rm_elements.specs.declared.header.AckBlock.{AckBlock}
 use Rattle.rm_elements.specs.declared.header.SeqHeader.{SeqHeader}
 use Rattle.rm_elements.specs.declared.lifecycle.Lifecycle.TheVariants as life
 use Rattle.rm_elements.specs.declared.lifecycle.Offer.{Offer}
-use Rattle.rm_source.specs.declared.phase.OutPhase.{OutPhase}
-use Rattle.rm_source.specs.declared.phase.OutPhase.TheVariants as out
+use Rattle.rm_sides.specs.declared.source.phase.OutPhase.{OutPhase}
+use Rattle.rm_sides.specs.declared.source.phase.OutPhase.TheVariants as out
 use Rattle.rm_message.specs.declared.message.Body.{Body}
 use Rattle.rm_message.specs.declared.message.Body.TheVariants as body
 use Rattle.rm_message.specs.declared.message.Message.{Message}
@@ -21,7 +21,7 @@ use Rattle.wsa_headers.specs.declared.endpoint.Epr.{Epr}
 use Rattle.record_batch.specs.declared.record.Via.{Via}
 use Rattle.record_batch.specs.Fact.{Fact, Closing, Ending}
 use Rattle.record_snapshot.specs.Same.{AreProper}
-use Rattle.rm_destination.specs.Messages.{is_empty, ranges_onto}
+use Rattle.rm_sides.specs.Destination.Messages.{is_empty, ranges_onto}
 use Rattle.sequence_table.specs.Words.{Text, at_seq, last_or}
 use Rattle.sequence_table.specs.Idents.{issue}
 use Rattle.sequence_table.specs.Makers.{Maker, Outgoing, Offered, Incoming, Taken, draws_of, makers, maker, number}

@@ -22,7 +22,7 @@ use Rattle.rm_message.specs.declared.refusal.FaultKind.{FaultKind}
 use Rattle.rm_message.specs.declared.refusal.Refusal.{Refusal}
 use Rattle.sequence_table.specs.Find.{peer}
 use Rattle.sequence_table.specs.Sources.{all_unacked, out_ident, unacked}
-use Rattle.rm_destination.specs.Incoming.{is_past}
+use Rattle.rm_sides.specs.Destination.Incoming.{is_past}
 use Rattle.sequence_table.specs.Destinations.{deadline_of}
 use Rattle.rm_protocol.specs.Calls
 use Rattle.rm_protocol.specs.Calls.{Answer, Cause, Outcome, Done, refusal, adds, if_room, Wish}

@@ -11,9 +11,9 @@ use Rattle.rm_base.specs.NumberSet.{has_number}
 use Rattle.rm_base.specs.declared.message.Behaviour.{Behaviour}
 use Rattle.rm_base.specs.declared.message.Cause.TheVariants.{Peer}
 use Rattle.rm_base.specs.declared.message.Payload.{Payload}
-use Rattle.ack_ranges.specs.Changes.{covers_all, united}
-use Rattle.ack_ranges.specs.Ranges.{in_range, in_ranges}
-use Rattle.ack_ranges.specs.declared.range.Range.{Range}
+use Rattle.rm_sides.specs.Ranges.Changes.{covers_all, united}
+use Rattle.rm_sides.specs.Ranges.Ranges.{in_range, in_ranges}
+use Rattle.rm_sides.specs.declared.ranges.range.Range.{Range}
 use Rattle.rm_elements.specs.declared.header.AckBlock.{AckBlock}
 use Rattle.rm_elements.specs.declared.header.SeqHeader.{SeqHeader}
 use Rattle.rm_elements.specs.declared.lifecycle.CreateResponse.{CreateResponse}

@@ -8,12 +8,12 @@ use Rattle.std.specs.Prelude.{Option, Some, None, slice_get}
 use Rattle.std.specs.Option.{option_or}
 use Rattle.std.proofs.lemmas.Bool.{and_parts, eqb-true, eq-eqb, false≢true}
 use Rattle.std.proofs.lemmas.Bool.Decides.{nat_tests}
-use Rattle.ack_ranges.specs.declared.range.Range.{Range}
-use Rattle.ack_ranges.specs.Ranges.{is_between, in_range, in_ranges}
-use Rattle.ack_ranges.specs.Changes.{with_range, united}
-use Rattle.rm_source.specs.declared.phase.OutPhase.{OutPhase}
-use Rattle.rm_source.specs.declared.phase.OutPhase.TheVariants as out
-use Rattle.rm_source.specs.Outgoing.{Sending, accepted_count as count_of, first_run}
+use Rattle.rm_sides.specs.declared.ranges.range.Range.{Range}
+use Rattle.rm_sides.specs.Ranges.Ranges.{is_between, in_range, in_ranges}
+use Rattle.rm_sides.specs.Ranges.Changes.{with_range, united}
+use Rattle.rm_sides.specs.declared.source.phase.OutPhase.{OutPhase}
+use Rattle.rm_sides.specs.declared.source.phase.OutPhase.TheVariants as out
+use Rattle.rm_sides.specs.Source.Outgoing.{Sending, accepted_count as count_of, first_run}
 use Rattle.rm_timers.specs.declared.timers.Key.{Key}
 use Rattle.key_timers.specs.Waits.{same_key, has_key}
 use Rattle.key_timers.specs.KeyLemmas.{same_key-is}

@@ -10,8 +10,8 @@ use Rattle.rm_base.specs.declared.message.Cause.TheVariants.{Operator, Expired}
 use Rattle.rm_elements.specs.declared.header.AckBlock.{AckBlock}
 use Rattle.rm_elements.specs.declared.header.SeqHeader.{SeqHeader}
 use Rattle.rm_base.specs.declared.lapse.Lapse.{Lapse}
-use Rattle.rm_source.specs.declared.phase.OutPhase.{OutPhase}
-use Rattle.rm_source.specs.declared.phase.OutPhase.TheVariants as out
+use Rattle.rm_sides.specs.declared.source.phase.OutPhase.{OutPhase}
+use Rattle.rm_sides.specs.declared.source.phase.OutPhase.TheVariants as out
 use Rattle.rm_message.specs.declared.message.Message.{Message}
 use Rattle.rm_message.specs.declared.refusal.FaultKind.{FaultKind}
 use Rattle.rm_message.specs.declared.refusal.FaultKind.TheVariants.{UnknownSequence, SequenceTerminated}
@@ -25,8 +25,8 @@ use Rattle.sequence_table.specs.Idents.{issue}
 use Rattle.sequence_table.specs.Makers.{Maker, Outgoing, Taken, makers, maker, counter, number}
 use Rattle.sequence_table.specs.Sources.{accepted_count, out_ident, phase, unacked, all_unacked}
 use Rattle.rm_base.specs.NumberSet.{has_number}
-use Rattle.rm_destination.specs.Incoming.{is_past}
-use Rattle.rm_destination.specs.Messages.{ranges_onto}
+use Rattle.rm_sides.specs.Destination.Incoming.{is_past}
+use Rattle.rm_sides.specs.Destination.Messages.{ranges_onto}
 use Rattle.sequence_table.specs.Destinations.{cursor, held, has_end, inbox, is_over, deadline_of}
 use Rattle.sequence_table.specs.Find.{incoming_of, find_incoming, acks_to, peer}
 use Rattle.rm_protocol.specs.Addresses.{fault_endpoint}
@@ -38,7 +38,7 @@ use Rattle.rm_protocol.specs.Verdict.{verdict, target, is_invalid, has_room}
 use Rattle.rm_protocol.specs.Waiting.{Moves, no_moves, nacked, numbers_from}
 use Rattle.rm_timers.specs.declared.timers.Key.{Key}
 use Rattle.key_timers.specs.Waits.{Wait, first_due}
-use Rattle.ack_ranges.specs.Ranges.{greatest_of}
+use Rattle.rm_sides.specs.Ranges.Ranges.{greatest_of}
 use Rattle.wsa_headers.specs.declared.endpoint.Epr.{Epr}
 use Rattle.rm_elements.specs.declared.header.AckKind.TheVariants as kind
 

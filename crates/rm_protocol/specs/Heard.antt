@@ -1,6 +1,6 @@
 -- Which records a message may bring: those of the receiving table alone.
 use Rattle.std.specs.Prelude.{◌≡◌, ◌⊎◌, ℕ, [], Option, Some, IfSome, slice_get}
-use Rattle.ack_ranges.specs.Changes.{united}
+use Rattle.rm_sides.specs.Ranges.Changes.{united}
 use Rattle.rm_base.specs.declared.message.Cause.TheVariants.{Peer, NotTaken}
 use Rattle.rm_elements.specs.declared.header.AckBlock.{AckBlock}
 use Rattle.rm_elements.specs.declared.lifecycle.CreateResponse.{CreateResponse}

@@ -10,12 +10,12 @@ use Rattle.rm_base.specs.declared.message.Behaviour.{Behaviour}
 use Rattle.rm_base.specs.declared.message.Behaviour.TheVariants.{FollowingFirstGap}
 use Rattle.rm_base.specs.declared.message.Payload.{Payload}
 use Rattle.rm_elements.specs.declared.header.AckBlock.{AckBlock}
-use Rattle.rm_source.specs.declared.phase.OutPhase.TheVariants as out
+use Rattle.rm_sides.specs.declared.source.phase.OutPhase.TheVariants as out
 use Rattle.rm_message.specs.declared.message.Body.TheVariants as body
 use Rattle.rm_message.specs.declared.message.Message.{Message}
 use Rattle.record_batch.specs.Fact.{Fact, Received}
 use Rattle.record_snapshot.specs.Same.{AreNumbers}
-use Rattle.rm_destination.specs.Incoming.{is_loose}
+use Rattle.rm_sides.specs.Destination.Incoming.{is_loose}
 use Rattle.sequence_table.specs.Words.{Text}
 use Rattle.sequence_table.specs.Destinations.{behaviour, front, held, inbox, is_over, items}
 use Rattle.sequence_table.specs.Sources.{is_sending, phase}

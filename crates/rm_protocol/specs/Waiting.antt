@@ -2,9 +2,9 @@
 -- WS-ReliableMessaging 1.2, sections 2.4, 3.4 to 3.6 and 3.9.
 use Rattle.std.specs.Prelude.{ℕ, zero, suc, ◌+◌, ◌&&◌, not, nat_le, Bool, true, false, List, []}
 use Rattle.std.specs.Prelude.{◌∷◌, ◌++◌, filter, length, map, Option, Some, None}
-use Rattle.ack_ranges.specs.Ranges.{in_ranges}
-use Rattle.rm_source.specs.declared.phase.OutPhase.{OutPhase}
-use Rattle.rm_source.specs.declared.phase.OutPhase.TheVariants as out
+use Rattle.rm_sides.specs.Ranges.Ranges.{in_ranges}
+use Rattle.rm_sides.specs.declared.source.phase.OutPhase.{OutPhase}
+use Rattle.rm_sides.specs.declared.source.phase.OutPhase.TheVariants as out
 use Rattle.rm_timers.specs.declared.timers.Key.{Key}
 use Rattle.key_timers.specs.Waits.{Wait, fresh, begin_all, urge_all, send_all}
 use Rattle.rm_elements.specs.declared.header.AckBlock.{AckBlock}
@@ -12,7 +12,7 @@ use Rattle.rm_elements.specs.declared.header.AckKind.{AckKind}
 use Rattle.rm_elements.specs.declared.header.AckKind.TheVariants as kind
 use Rattle.record_batch.specs.Fact.{Fact, Creating, Accepted, Closing, Ending}
 use Rattle.sequence_table.specs.Makers.{Maker, Outgoing, Taken, makers, maker}
-use Rattle.rm_source.specs.Outgoing.{Sending, accepted_count as count_of}
+use Rattle.rm_sides.specs.Source.Outgoing.{Sending, accepted_count as count_of}
 use Rattle.sequence_table.specs.Sources.{accepted_count, is_sending}
 use Rattle.sequence_table.specs.Told.{sending}
 use Rattle.sequence_table.specs.Find.{find_outgoing}

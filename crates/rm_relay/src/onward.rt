@@ -3,7 +3,7 @@
 ghost use Rattle.std.specs.Prelude.{◌≡◌, ◌<◌, ◌≤◌, ℕ, IfSome, IfNone, IfOk, MatchBool, Some, None, option_map, true};
 ghost use Rattle.std.specs.Option.{option_copied};
 ghost use Rattle.rm_base.specs.Message.{max_number};
-ghost use Rattle.rm_destination.specs.Messages.{item_at};
+ghost use Rattle.rm_sides.specs.Destination.Messages.{item_at};
 ghost use Rattle.sequence_table.specs.Destinations.{cursor, inbox};
 ghost use Rattle.sequence_table.specs.Fits.{is_incoming_side, is_outgoing_side};
 ghost use Rattle.sequence_table.specs.Makers.{maker};

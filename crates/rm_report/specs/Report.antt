@@ -1,12 +1,12 @@
 -- The text of a report: a line for each line of the script that does something, and then what the nodes know.
 use Rattle.std.specs.Prelude.{ℕ, ◌==◌, if◌then◌else◌, List, [], ◌∷◌, ◌++◌, codes, decimal}
 use Rattle.hex.specs.Hex.{encode_lower}
-use Rattle.ack_ranges.specs.declared.range.Range.{Range}
+use Rattle.rm_sides.specs.declared.ranges.range.Range.{Range}
 use Rattle.message_lines.specs.Lines as lines
 use Rattle.rm_base.specs.declared.message.Behaviour.{Behaviour}
 use Rattle.rm_base.specs.declared.message.Behaviour.TheVariants.{NoDiscard, EntireSequence, FollowingFirstGap}
-use Rattle.rm_destination.specs.declared.outcome.InPhase.{InPhase}
-use Rattle.rm_destination.specs.declared.outcome.InPhase.TheVariants as incoming
+use Rattle.rm_sides.specs.declared.destination.outcome.InPhase.{InPhase}
+use Rattle.rm_sides.specs.declared.destination.outcome.InPhase.TheVariants as incoming
 use Rattle.rm_message.specs.Kinds.{kind_name}
 use Rattle.rm_report.specs.declared.line.Line.{Line}
 use Rattle.rm_report.specs.declared.line.Outcome.{Outcome}
@@ -15,8 +15,8 @@ use Rattle.rm_report.specs.declared.line.Outcome.TheVariants.{Done}
 use Rattle.rm_report.specs.declared.line.Reason.{Reason}
 use Rattle.rm_report.specs.declared.line.Reason.TheVariants as reason
 use Rattle.rm_report.specs.declared.summary.Place.{Place}
-use Rattle.rm_source.specs.declared.phase.OutPhase.{OutPhase}
-use Rattle.rm_source.specs.declared.phase.OutPhase.TheVariants as outgoing
+use Rattle.rm_sides.specs.declared.source.phase.OutPhase.{OutPhase}
+use Rattle.rm_sides.specs.declared.source.phase.OutPhase.TheVariants as outgoing
 
 -- ---- a line for a line of the script
 

@@ -4,8 +4,8 @@ ghost use Rattle.rm_report.specs.Report.{reason_text, out_phase, in_phase, behav
 
 use crate::line::Reason;
 use rm_base::Behaviour;
-use rm_destination::InPhase;
-use rm_source::OutPhase;
+use rm_sides::destination::InPhase;
+use rm_sides::source::OutPhase;
 
 pub(crate) fn reason_name(reason: Reason) -> &'static [u8]
     ensures { result.now ≡ reason_text reason }

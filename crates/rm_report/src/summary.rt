@@ -4,10 +4,10 @@ ghost use Rattle.rm_report.specs.Report.{out_text, in_text, counts_text, item_te
 ghost use Rattle.rm_report.specs.Report.{consumed_text, receiving_text, sending_text};
 
 use crate::names::{behaviour_name, in_phase_name, out_phase_name};
-use ack_ranges::Range;
+use rm_sides::ranges::Range;
 use rm_base::{Behaviour, Blob, Memory, push_decimal, push_hex};
-use rm_destination::InPhase;
-use rm_source::OutPhase;
+use rm_sides::destination::InPhase;
+use rm_sides::source::OutPhase;
 
 /// The number of a node, and the place of a sequence among those of the node, counted from 1.
 #[derive(Clone, Copy, Debug, PartialEq, Eq)]

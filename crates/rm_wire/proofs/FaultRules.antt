@@ -24,7 +24,7 @@ use Rattle.soap_values.specs.TextLaws.{literal_is_text}
 use Rattle.soap_values.specs.Values.{trimmed}
 use Rattle.wsa_headers.specs.TextLaws.{text_writable}
 use Rattle.wsa_headers.specs.Writable.{IsParamWritable}
-use Rattle.ack_ranges.specs.declared.range.Range.{Range}
+use Rattle.rm_sides.specs.declared.ranges.range.Range.{Range}
 use Rattle.rm_elements.specs.Outcome.{rm}
 use Rattle.rm_elements.specs.Texts.{range_node, nack_node, final_nodes, kind_nodes}
 use Rattle.rm_elements.specs.Texts.{header_node}

@@ -1,12 +1,12 @@
 //! Tests of rm_report.
-use ack_ranges::Range;
+use rm_sides::ranges::Range;
 use rm_base::{Behaviour, Blob};
-use rm_destination::InPhase;
+use rm_sides::destination::InPhase;
 use rm_message::FaultKind;
 use rm_report::{
     Line, Outcome, Place, Reason, push_down, push_in, push_item, push_lines, push_out, push_ranges,
 };
-use rm_source::OutPhase;
+use rm_sides::source::OutPhase;
 use std::test::Fail;
 
 fn line(number: u64, outcome: Outcome, entries_one: u64, entries_two: u64, packets: u64) -> Line {

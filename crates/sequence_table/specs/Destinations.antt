@@ -2,16 +2,17 @@
 use Rattle.std.specs.Prelude.{ℕ, ◌==◌, ◌||◌, not, Bool, true, false, if◌then◌else◌, List, [], ◌∷◌}
 use Rattle.std.specs.Prelude.{length, drop, Option, Some, None, map}
 use Rattle.std.specs.List.{flat_map}
-use Rattle.ack_ranges.specs.declared.range.Range.{Range}
-use Rattle.ack_ranges.specs.Ranges.{count_of}
+use Rattle.rm_sides.specs.declared.ranges.range.Range.{Range}
+use Rattle.rm_sides.specs.Ranges.Ranges.{count_of}
 use Rattle.rm_base.specs.NumberSet.{greatest_of}
 use Rattle.rm_base.specs.declared.message.Behaviour.{Behaviour}
 use Rattle.rm_base.specs.declared.message.Behaviour.TheVariants.{FollowingFirstGap}
 use Rattle.rm_base.specs.declared.message.Cause.TheVariants.{Peer}
 use Rattle.rm_base.specs.declared.message.Payload.{Payload}
-use Rattle.rm_destination.specs.Incoming.{inbox_of, is_past, is_whole_by}
-use Rattle.rm_destination.specs.Messages.{Item, any_true, contents_of, is_empty, items_of, numbers_of, sorted_onto}
-use Rattle.rm_destination.specs.Messages.{without_gap}
+use Rattle.rm_sides.specs.Destination.Incoming.{inbox_of, is_past, is_whole_by}
+use Rattle.rm_sides.specs.Destination.Messages.{Item, any_true, contents_of, is_empty, items_of, numbers_of}
+use Rattle.rm_sides.specs.Destination.Messages.{sorted_onto}
+use Rattle.rm_sides.specs.Destination.Messages.{without_gap}
 use Rattle.record_batch.specs.Fact.{Fact, Received, Closed, Ended, Consumed, Purged}
 use Rattle.sequence_table.specs.Words.{Text, at_seq}
 use Rattle.sequence_table.specs.Makers.{Maker, Incoming, Offered, maker}

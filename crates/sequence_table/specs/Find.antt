@@ -5,7 +5,7 @@ use Rattle.std.specs.List.{flat_map}
 use Rattle.std.specs.Str.{bytes_eq}
 use Rattle.wsa_headers.specs.declared.endpoint.Epr.{Epr}
 use Rattle.record_batch.specs.Fact.{Fact, Created}
-use Rattle.rm_destination.specs.Messages.{is_empty}
+use Rattle.rm_sides.specs.Destination.Messages.{is_empty}
 use Rattle.sequence_table.specs.Words.{Text, at_seq, first_or}
 use Rattle.sequence_table.specs.Idents.{issue}
 use Rattle.sequence_table.specs.Makers.{Maker, Outgoing, Offered, Incoming, Taken, makers, maker, number, created}

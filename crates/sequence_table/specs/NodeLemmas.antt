@@ -5,7 +5,7 @@ use Rattle.std.specs.List.{flat_map}
 use Rattle.std.proofs.lemmas.Bool.{and_parts, false≢true}
 use Rattle.std.proofs.lemmas.List.{append-nil, append_assoc, length-append}
 use Rattle.record_batch.specs.Fact.{Fact, Made}
-use Rattle.rm_destination.specs.Messages.{is_empty}
+use Rattle.rm_sides.specs.Destination.Messages.{is_empty}
 use Rattle.sequence_table.specs.Words.{first_or}
 use Rattle.sequence_table.specs.Makers.{makers, makers_of, draws_of, counter, nodes_of, number, addresses_of}
 use Rattle.sequence_table.specs.Makers.{created, created_of}

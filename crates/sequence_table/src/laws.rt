@@ -1,7 +1,7 @@
 //! What the definitions come to on worked lists of records.
 ghost use Rattle.std.specs.Prelude.{◌≡◌, ◌≤◌, List, ◌++◌, ◌∷◌, [], true, false, length, Some, None, codes};
 ghost use Rattle.rm_base.specs.declared.message.Cause.TheVariants.{Peer};
-ghost use Rattle.rm_source.specs.declared.phase.OutPhase.TheVariants.{Closing};
+ghost use Rattle.rm_sides.specs.declared.source.phase.OutPhase.TheVariants.{Closing};
 ghost use Rattle.record_batch.specs.Batch.{batch_text};
 ghost use Rattle.record_batch.specs.Fact.{Accepted, Closed, Consumed, Dropped, Fact, Received};
 ghost use Rattle.sequence_table.specs.Destinations.{cursor, discarded, front, inbox, is_complete, is_ended};

@@ -2,7 +2,7 @@
 //! are those of WS-ReliableMessaging 1.2, section 4, WS-Addressing 1.0 SOAP Binding, section 6, and WS-MakeConnection
 //! 1.1, section 4; the reasons are ours.
 use crate::forms::{START11, is_text, joined, lowered};
-use ack_ranges::Range;
+use rm_sides::ranges::Range;
 use message_writer::fault_message;
 use rm_base::{Blob, Ident, Memory, TextError, Uri};
 use rm_elements::{AckBlock, AckKind, Ranges};

@@ -3,11 +3,11 @@ use Rattle.std.proofs.Common.{◌≡◌, ℕ, ◌+◌, ◌<◌, ◌≤◌, false
 use Rattle.std.proofs.Common.{arith, inl, inr}
 use Rattle.std.proofs.lemmas.Bool.{cases_lt, false≢true}
 use Rattle.std.proofs.lemmas.Bool.Decides.{nat_tests}
-use Rattle.ack_ranges.specs.declared.range.Range.{Range}
-use Rattle.ack_ranges.specs.Ranges.{IsCanonical, IsFront, RisesFrom, in_ranges}
+use Rattle.rm_sides.specs.declared.ranges.range.Range.{Range}
+use Rattle.rm_sides.specs.Ranges.Ranges.{IsCanonical, IsFront, RisesFrom, in_ranges}
 use Rattle.rm_base.specs.NumberSet.{has_number}
-use Rattle.rm_destination.specs.Laws.{FrontIsReached}
-use Rattle.rm_destination.specs.Messages.{Item, front_of, numbers_of}
+use Rattle.rm_sides.specs.Destination.Laws.{FrontIsReached}
+use Rattle.rm_sides.specs.Destination.Messages.{Item, front_of, numbers_of}
 
 none_before : (first n : ℕ) (rs : List Range) → RisesFrom first rs → n < first → in_ranges rs n ≡ false
 none_before first n [] h lt = refl

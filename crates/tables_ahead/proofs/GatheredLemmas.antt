@@ -10,19 +10,19 @@ use Rattle.std.specs.Str.{bytes_eq}
 use Rattle.std.proofs.Math.Bool.{or_assoc}
 use Rattle.std.proofs.lemmas.Grind.{flat_map-append}
 use Rattle.std.proofs.lemmas.List.{append-nil, append_assoc, length-append, map-append}
-use Rattle.ack_ranges.specs.declared.range.Range.{Range}
-use Rattle.ack_ranges.specs.Changes.{with_range, united}
+use Rattle.rm_sides.specs.declared.ranges.range.Range.{Range}
+use Rattle.rm_sides.specs.Ranges.Changes.{with_range, united}
 use Rattle.rm_base.specs.NumberSet.{has_number}
 use Rattle.rm_base.specs.declared.message.Payload.{Payload}
-use Rattle.rm_destination.specs.ItemLemmas.{numbers_of-both, numbers_of-there}
-use Rattle.rm_destination.specs.Messages.{items_of, numbers_in, ranges_onto}
+use Rattle.rm_sides.specs.Destination.ItemLemmas.{numbers_of-both, numbers_of-there}
+use Rattle.rm_sides.specs.Destination.Messages.{items_of, numbers_in, ranges_onto}
 use Rattle.record_batch.specs.Fact.{Fact, Dropped, Purged}
-use Rattle.rm_destination.specs.Messages.{is_empty, numbers_of}
+use Rattle.rm_sides.specs.Destination.Messages.{is_empty, numbers_of}
 use Rattle.sequence_table.specs.Words.{Text, at_seq, last_or}
 use Rattle.sequence_table.specs.Makers.{makers, makers_of, counter, draws_of}
 use Rattle.sequence_table.specs.Makers.{created, created_of, created_from, seq_in}
 use Rattle.sequence_table.specs.Sources.{accepted, accepted_count, accepted_of, acked, acked_of, dropped, dropped_of}
-use Rattle.rm_destination.specs.Messages.{any_true}
+use Rattle.rm_sides.specs.Destination.Messages.{any_true}
 use Rattle.sequence_table.specs.Destinations.{close_of, closes, has_end, held, is_stopped, items, purged, purged_of}
 use Rattle.sequence_table.specs.Destinations.{received, received_of}
 use Rattle.sequence_table.specs.Find.{find_outgoing}

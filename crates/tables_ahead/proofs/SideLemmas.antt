@@ -8,12 +8,12 @@ use Rattle.std.proofs.lemmas.Bool.{and_parts, false≢true, leb-true, ne_eqb}
 use Rattle.std.proofs.lemmas.List.{append-nil, append_assoc, map-append}
 use Rattle.rm_base.specs.declared.message.Payload.{Payload}
 use Rattle.wsa_headers.specs.declared.endpoint.Epr.{Epr}
-use Rattle.rm_destination.specs.Incoming.{Receiving}
-use Rattle.rm_source.specs.declared.phase.OutPhase.TheVariants as out
+use Rattle.rm_sides.specs.Destination.Incoming.{Receiving}
+use Rattle.rm_sides.specs.declared.source.phase.OutPhase.TheVariants as out
 use Rattle.record_batch.specs.Fact.{Fact, Made, Creating, Created, Granted, Accepted, Acked, Received}
 use Rattle.record_batch.specs.Fact.{Closing}
 use Rattle.record_batch.specs.Fact.{ClosedOut, Closed, Ending, EndedOut, Ended, Failed, Consumed, Dropped, Purged}
-use Rattle.rm_destination.specs.Messages.{items_of, numbers_of}
+use Rattle.rm_sides.specs.Destination.Messages.{items_of, numbers_of}
 use Rattle.sequence_table.specs.Words.{Text, at_seq, first_or, last_or}
 use Rattle.sequence_table.specs.Makers.{Maker, Outgoing, Offered, Incoming, Taken, makers, makers_of, maker, counter}
 use Rattle.sequence_table.specs.Makers.{created_of, created_from, ident_in}

@@ -2,11 +2,11 @@
 use Rattle.std.specs.Prelude.{◌≡◌, ℕ, ◌≤◌, Bool, true, false, List, [], ◌∷◌, ◌++◌, length, Option, Some, None}
 use Rattle.std.specs.List.{flat_map, list_all}
 use Rattle.rm_base.specs.Message.{max_number}
-use Rattle.ack_ranges.specs.declared.range.Range.{Range}
-use Rattle.ack_ranges.specs.Ranges.{Contents}
+use Rattle.rm_sides.specs.declared.ranges.range.Range.{Range}
+use Rattle.rm_sides.specs.Ranges.Ranges.{Contents}
 use Rattle.record_batch.specs.Fact.{Fact, Made, Creating, Granted, Dropped, Purged}
-use Rattle.rm_source.specs.declared.phase.OutPhase.{OutPhase}
-use Rattle.rm_source.specs.declared.phase.OutPhase.TheVariants as out
+use Rattle.rm_sides.specs.declared.source.phase.OutPhase.{OutPhase}
+use Rattle.rm_sides.specs.declared.source.phase.OutPhase.TheVariants as out
 use Rattle.sequence_table.specs.Words.{Text}
 use Rattle.sequence_table.specs.Find.{find_from, find_incoming}
 use Rattle.sequence_table.specs.Idents.{IsIssuedFor}

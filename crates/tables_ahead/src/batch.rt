@@ -3,7 +3,7 @@ ghost use Rattle.std.specs.Prelude.{◌≡◌, ◌+◌, ◌≤◌, length, map, 
 ghost use Rattle.std.specs.List.{flat_map};
 ghost use Rattle.std.specs.Option.{option_copied, option_map};
 ghost use Rattle.record_batch.specs.Fact.{fact_of};
-ghost use Rattle.rm_destination.specs.Messages.{numbers_of};
+ghost use Rattle.rm_sides.specs.Destination.Messages.{numbers_of};
 ghost use Rattle.sequence_table.specs.Destinations.{has_end, is_stopped, received};
 ghost use Rattle.sequence_table.specs.Find.{accept_of};
 ghost use Rattle.sequence_table.specs.Makers.{counter, created_from, ident_in, makers, seq_in};
@@ -18,7 +18,7 @@ use crate::record::{
 use node_tables::{Maker, maker_by};
 use record_batch::Record;
 use rm_base::Ident;
-use rm_source::OutPhase;
+use rm_sides::source::OutPhase;
 use sequence_table::made_by;
 use wsa_headers::Epr;
 

@@ -1,10 +1,10 @@
 //! The tables of a node with records ahead, which are not written yet.
 ghost use Rattle.std.specs.Prelude.{◌≡◌, ◌+◌, ◌^◌, ◌<◌, ◌++◌, ◌∷◌, [], true, length, map, min, IfOk, OnOk, OnErr};
 ghost use Rattle.std.specs.Option.{option_copied, option_map};
-ghost use Rattle.ack_ranges.specs.Changes.{covers_all, united};
+ghost use Rattle.rm_sides.specs.Ranges.Changes.{covers_all, united};
 ghost use Rattle.rm_base.specs.NumberSet.{has_number};
 ghost use Rattle.record_batch.specs.Fact.{fact_of};
-ghost use Rattle.rm_destination.specs.Messages.{ranges_onto};
+ghost use Rattle.rm_sides.specs.Destination.Messages.{ranges_onto};
 ghost use Rattle.sequence_table.specs.Destinations.{deadline_of, front, has_end, held, is_ended, is_over};
 ghost use Rattle.sequence_table.specs.Destinations.{is_stopped, received};
 ghost use Rattle.sequence_table.specs.Find.{accepted_by, find_creating, find_grant, find_incoming, find_outgoing};
@@ -24,12 +24,12 @@ use crate::batch::{
 use crate::numbers::{acks_in, has_all, insert_received, unite_acked};
 use crate::sides;
 use crate::sought::Sought;
-use ack_ranges::{Range, RangeSet};
+use rm_sides::ranges::{Range, RangeSet};
 use node_tables::{Maker, Tables};
 use record_batch::Record;
 use rm_base::{Ident, Memory, Uri};
-use rm_destination::is_past;
-use rm_source::OutPhase;
+use rm_sides::destination::is_past;
+use rm_sides::source::OutPhase;
 use sequence_table::{issued_counter, made_by};
 use std::alloc::Global;
 use std::marker::Model;

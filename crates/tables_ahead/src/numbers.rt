@@ -1,16 +1,16 @@
 //! Sets of message numbers with those that a batch adds.
 ghost use Rattle.std.specs.Prelude.{◌≡◌, [], map, true, false, OnOk};
 ghost use Rattle.std.specs.List.{list_all};
-ghost use Rattle.ack_ranges.specs.Changes.{covers, covers_all, united};
+ghost use Rattle.rm_sides.specs.Ranges.Changes.{covers, covers_all, united};
 ghost use Rattle.record_batch.specs.Fact.{fact_of};
-ghost use Rattle.rm_destination.specs.Messages.{numbers_of, ranges_onto};
+ghost use Rattle.rm_sides.specs.Destination.Messages.{numbers_of, ranges_onto};
 ghost use Rattle.sequence_table.specs.Destinations.{received};
 ghost use Rattle.sequence_table.specs.Sources.{acked, acked_of};
 ghost use Rattle.node_tables.specs.Room.{has_room};
 ghost use Rattle.tables_ahead.specs.Known.{AreNumbers};
 
 use crate::record::{acked_by, number_by};
-use ack_ranges::{Range, RangeSet};
+use rm_sides::ranges::{Range, RangeSet};
 use record_batch::Record;
 use rm_base::Memory;
 

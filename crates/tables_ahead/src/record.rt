@@ -2,20 +2,20 @@
 ghost use Rattle.std.specs.Prelude.{◌≡◌, ◌+◌, ◌≤◌, true, length, not, slice_get};
 ghost use Rattle.std.specs.Option.{option_copied, option_map};
 ghost use Rattle.record_batch.specs.Fact.{fact_of};
-ghost use Rattle.rm_destination.specs.Messages.{any_true};
+ghost use Rattle.rm_sides.specs.Destination.Messages.{any_true};
 ghost use Rattle.sequence_table.specs.Destinations.{close_of, received_of};
 ghost use Rattle.sequence_table.specs.Find.{accept_of};
 ghost use Rattle.sequence_table.specs.Makers.{created_of, draws_of, ident_in, makers_of, seq_in};
 ghost use Rattle.sequence_table.specs.Sources.{accepted_of, acked_of, mark_of};
-ghost use Rattle.rm_destination.specs.Messages.{is_empty, numbers_of};
+ghost use Rattle.rm_sides.specs.Destination.Messages.{is_empty, numbers_of};
 ghost use Rattle.sequence_table.specs.Words.{at_seq, last_or};
 ghost use Rattle.node_tables.specs.Room.{has_room};
 ghost use Rattle.tables_ahead.specs.Known.{ranges_in};
 
-use ack_ranges::RangeSet;
+use rm_sides::ranges::RangeSet;
 use record_batch::Record;
 use rm_base::Ident;
-use rm_source::OutPhase;
+use rm_sides::source::OutPhase;
 use wsa_headers::Epr;
 
 /// How many numbers a record draws.

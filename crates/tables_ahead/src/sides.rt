@@ -1,21 +1,21 @@
 //! What the tables say of a sequence on one side. Of one on the other side, or that isn't there, they say nothing.
 ghost use Rattle.std.specs.Prelude.{◌≡◌, ◌≤◌, [], true, IfOk};
-ghost use Rattle.ack_ranges.specs.Changes.{covers_all, united};
+ghost use Rattle.rm_sides.specs.Ranges.Changes.{covers_all, united};
 ghost use Rattle.rm_base.specs.Message.{max_number};
 ghost use Rattle.rm_base.specs.NumberSet.{has_number};
-ghost use Rattle.rm_destination.specs.Messages.{ranges_onto};
+ghost use Rattle.rm_sides.specs.Destination.Messages.{ranges_onto};
 ghost use Rattle.sequence_table.specs.Destinations.{front, has_end, held, is_stopped};
 ghost use Rattle.sequence_table.specs.Fits.{all_fit};
 ghost use Rattle.sequence_table.specs.Sources.{accepted_count, acked, phase};
 
 use crate::numbers::has_all;
-use ack_ranges::{Range, RangeSet};
+use rm_sides::ranges::{Range, RangeSet};
 use node_tables::Tables;
 use node_tables::laws::{an_incoming_sequence_is_as_recorded, an_outgoing_sequence_is_as_recorded};
 use record_batch::Record;
 use rm_base::{Cause, Memory};
-use rm_destination::laws::front_is_reached;
-use rm_source::OutPhase;
+use rm_sides::destination::laws::front_is_reached;
+use rm_sides::source::OutPhase;
 use std::alloc::Global;
 
 /// How many messages were accepted, with those that are gone.

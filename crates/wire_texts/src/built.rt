@@ -1,6 +1,6 @@
 //! The acknowledgement of the first message of a sequence, from its values to its text and back.
 use crate::forms::{START, written};
-use ack_ranges::Range;
+use rm_sides::ranges::Range;
 use message_reader::decode;
 use rm_base::{Blob, Ident, Memory, TextError, Uri};
 use rm_elements::{AckBlock, AckKind, Ranges};

@@ -1,6 +1,6 @@
 -- A snapshot of a node's records is such records.
 use Rattle.std.proofs.Common.{◌≡◌, ℕ, ◌+◌, ◌≤◌, true, List, [], ◌∷◌, length, sym, ◌∙◌, ap, subst}
-use Rattle.ack_ranges.specs.Laws.{EndsAreRight, SameNumbersSameRanges, UnionHasBoth}
+use Rattle.rm_sides.specs.Ranges.Laws.{EndsAreRight, SameNumbersSameRanges, UnionHasBoth}
 use Rattle.rm_base.specs.Limits as limits
 use Rattle.rm_base.specs.Numbered.{numbered}
 use Rattle.record_batch.specs.Fact.{Fact, Made, Acked}

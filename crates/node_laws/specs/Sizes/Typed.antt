@@ -1,7 +1,7 @@
 -- What the types of a record's values keep, and which endpoint references it has.
 use Rattle.std.specs.Prelude.{◌<◌, List, [], ◌∷◌, Option, Some, None, IfSome}
 use Rattle.std.specs.List.{AllByRecursion}
-use Rattle.ack_ranges.specs.Ranges.{IsCanonical}
+use Rattle.rm_sides.specs.Ranges.Ranges.{IsCanonical}
 use Rattle.rm_base.specs.Text.{IsText}
 use Rattle.wsa_headers.specs.Writable.{IsEprWritable}
 use Rattle.wsa_headers.specs.declared.endpoint.Epr.{Epr}

@@ -1,7 +1,7 @@
 //! How many bytes the values of records take. Sums stand still at the greatest number of 64 bits.
 ghost use Rattle.std.specs.Prelude.{◌≡◌, ◌*◌, ◌<◌, false, length, map, IfOk, OnOk, IfSome};
 ghost use Rattle.std.specs.List.{sum_by};
-ghost use Rattle.ack_ranges.specs.Ranges.{IsCanonical};
+ghost use Rattle.rm_sides.specs.Ranges.Ranges.{IsCanonical};
 ghost use Rattle.rm_base.specs.Text.{IsText};
 ghost use Rattle.soap_profile.specs.View.{element_view};
 ghost use Rattle.soap_writer.specs.ElementText.{element_text};
@@ -19,7 +19,7 @@ ghost use Rattle.node_laws.specs.Sizes.Size.{
 };
 ghost use Rattle.node_laws.specs.Sizes.Typed.{IsPeerOfferTyped};
 
-use ack_ranges::RangeSet;
+use rm_sides::ranges::RangeSet;
 use record_batch::{OwnOffer, PeerOffer};
 use rm_base::{Binding, Blob, Ident, Lapse, Memory, Payload, Uri};
 use soap_profile::Element;

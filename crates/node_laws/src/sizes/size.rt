@@ -1,7 +1,7 @@
 //! How many bytes records and batches take.
 ghost use Rattle.std.specs.Prelude.{◌≡◌, ◌+◌, ◌*◌, length, map, IfOk, OnOk, IfSome};
 ghost use Rattle.std.specs.List.{AllByRecursion};
-ghost use Rattle.ack_ranges.specs.Ranges.{IsCanonical};
+ghost use Rattle.rm_sides.specs.Ranges.Ranges.{IsCanonical};
 ghost use Rattle.rm_base.specs.Text.{IsText};
 ghost use Rattle.record_batch.specs.Batch.{batch_text};
 ghost use Rattle.record_batch.specs.Fact.{fact_of};
@@ -14,7 +14,7 @@ use crate::sizes::parts::{
     accept_len, deadline_len, endpoint_len, ident_len, lapse_len, own_offer_len, payload_len,
     peer_offer_len, ranges_len, u8_len, u32_len, u64_len, uri_len,
 };
-use ack_ranges::RangeSet;
+use rm_sides::ranges::RangeSet;
 use record_batch::{OwnOffer, PeerOffer, Record};
 use rm_base::{Blob, Ident, Lapse, Memory, Payload, Uri};
 use std::alloc::Global;

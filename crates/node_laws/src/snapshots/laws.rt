@@ -1,7 +1,7 @@
 //! What follows for a node.
 ghost use Rattle.node_laws.specs.Snapshots.Kept.{KeptHasProper, KeptHasSets, SnapshotIsKept};
 
-use ack_ranges::{ends_are_right, same_numbers_same_ranges, union_has_both};
+use rm_sides::ranges::{ends_are_right, same_numbers_same_ranges, union_has_both};
 
 /// A snapshot of the records of a node is records of a node: a mount accepts it.
 pub fn a_snapshot_is_kept()

@@ -5,12 +5,12 @@ use Rattle.std.specs.Prelude.{Bool, not, ◌&&◌, nat_le}
 use Rattle.std.specs.List.{list_all}
 use Rattle.std.proofs.lemmas.Bool.{and_parts, eqb-true, leb-true, false≢true}
 use Rattle.std.proofs.lemmas.Bool.Decides.{nat_tests}
-use Rattle.ack_ranges.specs.declared.range.Range.{Range}
-use Rattle.ack_ranges.specs.Changes.{with_range}
-use Rattle.ack_ranges.specs.Ranges.{RisesFrom, greatest_of}
+use Rattle.rm_sides.specs.declared.ranges.range.Range.{Range}
+use Rattle.rm_sides.specs.Ranges.Changes.{with_range}
+use Rattle.rm_sides.specs.Ranges.Ranges.{RisesFrom, greatest_of}
 use Rattle.rm_base.specs.Message.{max_number}
-use Rattle.rm_destination.specs.Incoming.{Receiving, held, is_loose}
-use Rattle.rm_destination.specs.Messages.{is_empty, ranges_onto, run_to}
+use Rattle.rm_sides.specs.Destination.Incoming.{Receiving, held, is_loose}
+use Rattle.rm_sides.specs.Destination.Messages.{is_empty, ranges_onto, run_to}
 use Rattle.sequence_table.specs.Fits.{is_up_to, is_first_run, is_set_from, may_be_gone}
 use Rattle.sequence_table.specs.SetLemmas.{is-set, set-up_to}
 use Rattle.sequence_table.specs.Told.{Receives}

@@ -1,19 +1,19 @@
 -- One sequence of a node as contracts see it: what is known of it, and the room for more.
 use Rattle.std.specs.Prelude.{◌≡◌, ℕ, ◌+◌, max, ◌==◌, ◌&&◌, nat_le, nat_lt, not, Bool, true, false, List, [], ◌∷◌}
 use Rattle.std.specs.Prelude.{◌++◌, length, Option, Some, None}
-use Rattle.ack_ranges.specs.declared.range.Range.{Range}
-use Rattle.ack_ranges.specs.Changes.{united}
-use Rattle.ack_ranges.specs.Ranges.{count_of, greatest_of}
+use Rattle.rm_sides.specs.declared.ranges.range.Range.{Range}
+use Rattle.rm_sides.specs.Ranges.Changes.{united}
+use Rattle.rm_sides.specs.Ranges.Ranges.{count_of, greatest_of}
 use Rattle.rm_base.specs.Message.{max_number}
 use Rattle.rm_base.specs.declared.message.Cause.{Cause}
 use Rattle.rm_base.specs.declared.message.Cause.TheVariants.{Peer}
 use Rattle.rm_base.specs.declared.message.Payload.{Payload}
 use Rattle.rm_base.specs.NumberSet.{has_number}
-use Rattle.rm_source.specs.declared.phase.OutPhase.{OutPhase}
-use Rattle.rm_source.specs.declared.phase.OutPhase.TheVariants as out
-use Rattle.rm_source.specs.Outgoing.{Sending, accepted_count, first_run, settled}
-use Rattle.rm_destination.specs.Incoming.{Receiving, forgotten as forgotten_in, fresh, held, inbox, is_loose}
-use Rattle.rm_destination.specs.Messages.{is_empty, any_true}
+use Rattle.rm_sides.specs.declared.source.phase.OutPhase.{OutPhase}
+use Rattle.rm_sides.specs.declared.source.phase.OutPhase.TheVariants as out
+use Rattle.rm_sides.specs.Source.Outgoing.{Sending, accepted_count, first_run, settled}
+use Rattle.rm_sides.specs.Destination.Incoming.{Receiving, forgotten as forgotten_in, fresh, held, inbox, is_loose}
+use Rattle.rm_sides.specs.Destination.Messages.{is_empty, any_true}
 use Rattle.std.specs.List.{list_all}
 use Rattle.record_batch.specs.Fact.{Fact, Created, Accepted, Acked, Received, Closing, ClosedOut, Closed}
 use Rattle.record_batch.specs.Fact.{Ending}

@@ -3,21 +3,21 @@ use Rattle.std.proofs.Common.{◌≡◌, ℕ, ◌+◌, ◌==◌, Bool, true, fal
 use Rattle.std.specs.Prelude.{◌&&◌, not, nat_le, nat_lt, length}
 use Rattle.std.specs.List.{list_all}
 use Rattle.std.proofs.lemmas.Option.{none-some}
-use Rattle.ack_ranges.specs.declared.range.Range.{Range}
+use Rattle.rm_sides.specs.declared.ranges.range.Range.{Range}
 use Rattle.rm_base.specs.Message.{max_number}
 use Rattle.rm_base.specs.NumberSet.{has_number}
 use Rattle.rm_base.specs.declared.message.Cause.{Cause}
 use Rattle.rm_base.specs.declared.message.Payload.{Payload}
 use Rattle.wsa_headers.specs.declared.endpoint.Epr.{Epr}
-use Rattle.rm_destination.specs.Messages.{is_empty, any_true}
+use Rattle.rm_sides.specs.Destination.Messages.{is_empty, any_true}
 use Rattle.record_batch.specs.Fact.{Fact, Made, Creating, Granted, Created, Accepted, Acked, Received}
 use Rattle.record_batch.specs.Fact.{Closing}
 use Rattle.record_batch.specs.Fact.{ClosedOut, Closed, Ending, EndedOut, Ended, Failed, Consumed, Dropped, Purged}
-use Rattle.rm_destination.specs.Messages.{is_empty as no_items}
+use Rattle.rm_sides.specs.Destination.Messages.{is_empty as no_items}
 use Rattle.sequence_table.specs.Makers.{Maker, Outgoing, maker, counter}
 use Rattle.sequence_table.specs.Sources.{accepted_count, phase}
-use Rattle.rm_destination.specs.Messages.{any_true as has_true}
-use Rattle.rm_destination.specs.Incoming.{inbox_of, is_loose}
+use Rattle.rm_sides.specs.Destination.Messages.{any_true as has_true}
+use Rattle.rm_sides.specs.Destination.Incoming.{inbox_of, is_loose}
 use Rattle.sequence_table.specs.Destinations.{behaviour_of, closes, cursor, held, items, told}
 use Rattle.sequence_table.specs.Fits.{fits, follows, is_outgoing_side, is_incoming_side, is_up_to}
 use Rattle.sequence_table.specs.Fits.{may_be_gone}

@@ -4,12 +4,12 @@ ghost use Rattle.std.specs.Prelude.{OnOk, OnErr};
 ghost use Rattle.std.specs.Option.{option_copied, option_map};
 ghost use Rattle.std.specs.List.{list_all};
 ghost use Rattle.rm_base.specs.Message.{max_number};
-ghost use Rattle.rm_source.specs.Outgoing.{Sequence as OutSequence};
-ghost use Rattle.rm_destination.specs.Incoming.{Sequence as InSequence, held};
-ghost use Rattle.rm_destination.specs.Messages.{is_empty, any_true};
+ghost use Rattle.rm_sides.specs.Source.Outgoing.{Sequence as OutSequence};
+ghost use Rattle.rm_sides.specs.Destination.Incoming.{Sequence as InSequence, held};
+ghost use Rattle.rm_sides.specs.Destination.Messages.{is_empty, any_true};
 ghost use Rattle.record_batch.specs.Fact.{fact_of};
 ghost use Rattle.sequence_table.specs.Fits.{follows, is_up_to, may_be_gone};
-ghost use Rattle.rm_destination.specs.Incoming.{is_loose};
+ghost use Rattle.rm_sides.specs.Destination.Incoming.{is_loose};
 ghost use Rattle.sequence_table.specs.Told.{Sends, Receives};
 ghost use Rattle.node_tables.specs.Row.Row.{
   is_moment,
@@ -42,11 +42,11 @@ ghost use Rattle.node_tables.specs.Row.Row.{
   stopped,
 };
 
-use ack_ranges::RangeSet;
+use rm_sides::ranges::RangeSet;
 use record_batch::Record;
 use rm_base::{Behaviour, Blob, Cause, MAX_NUMBER, Memory, Payload, is_message_number};
-use rm_destination::{InPhase, Incoming, is_loose};
-use rm_source::{OutPhase, Outgoing, SourceError};
+use rm_sides::destination::{InPhase, Incoming, is_loose};
+use rm_sides::source::{OutPhase, Outgoing, SourceError};
 use std::alloc::Global;
 use std::marker::Model;
 

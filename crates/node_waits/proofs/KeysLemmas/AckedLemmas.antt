@@ -6,10 +6,10 @@ use Rattle.std.specs.Prelude.{Option, Some, None}
 use Rattle.std.specs.List.{flat_map}
 use Rattle.std.proofs.lemmas.Bool.{and_parts, eqb-true, eq-eqb, false≢true}
 use Rattle.std.proofs.lemmas.Bool.Decides.{nat_tests}
-use Rattle.ack_ranges.specs.declared.range.Range.{Range}
-use Rattle.ack_ranges.specs.Ranges.{is_between, in_range, in_ranges}
-use Rattle.ack_ranges.specs.Changes.{with_range, united}
-use Rattle.rm_source.specs.Outgoing.{Sending}
+use Rattle.rm_sides.specs.declared.ranges.range.Range.{Range}
+use Rattle.rm_sides.specs.Ranges.Ranges.{is_between, in_range, in_ranges}
+use Rattle.rm_sides.specs.Ranges.Changes.{with_range, united}
+use Rattle.rm_sides.specs.Source.Outgoing.{Sending}
 use Rattle.rm_timers.specs.declared.timers.Key.{Key}
 use Rattle.record_batch.specs.Fact.{Fact, Acked}
 use Rattle.rm_base.specs.Numbered.{numbered}

@@ -5,12 +5,12 @@ use Rattle.std.specs.Prelude.{Option, Some, None}
 use Rattle.std.specs.List.{flat_map}
 use Rattle.std.proofs.lemmas.Bool.{false≢true, or_cases, or_left, or_right}
 use Rattle.std.proofs.lemmas.Bool.Decides.{nat_tests}
-use Rattle.ack_ranges.specs.declared.range.Range.{Range}
-use Rattle.ack_ranges.specs.Ranges.{in_range, in_ranges, is_between}
-use Rattle.ack_ranges.specs.Changes.{united, with_range}
+use Rattle.rm_sides.specs.declared.ranges.range.Range.{Range}
+use Rattle.rm_sides.specs.Ranges.Ranges.{in_range, in_ranges, is_between}
+use Rattle.rm_sides.specs.Ranges.Changes.{united, with_range}
 use Rattle.rm_timers.specs.declared.timers.Key.{Key}
 use Rattle.record_batch.specs.Fact.{Fact, Acked, Dropped}
-use Rattle.rm_source.specs.Outgoing.{accepted_count as accepted_in, first_run}
+use Rattle.rm_sides.specs.Source.Outgoing.{accepted_count as accepted_in, first_run}
 use Rattle.sequence_table.specs.Makers.{Maker, Outgoing, Offered, Incoming, Taken, maker}
 use Rattle.sequence_table.specs.Sources.{acked, acked_of, dropped, dropped_of, is_sending}
 use Rattle.sequence_table.specs.Told.{sending}

@@ -17,7 +17,7 @@ use Rattle.key_timers.specs.Keyed.{Keyed, StandsFor, Rises, is_before, slot_at, 
 use Rattle.key_timers.specs.Keyed.{cell_of}
 use Rattle.record_batch.specs.Fact.{Fact}
 use Rattle.rm_protocol.specs.Waiting.{is_waiting}
-use Rattle.ack_ranges.specs.declared.range.Range.{Range}
+use Rattle.rm_sides.specs.declared.ranges.range.Range.{Range}
 use Rattle.node_waits.specs.declared.keys.touched.Touched.{Touched}
 use Rattle.node_waits.specs.Keys.Settled.{first_key, first_number, has_number, is_kept, is_within, settled}
 use Rattle.node_waits.specs.Keys.Settled.{settled_cells}

@@ -2,8 +2,8 @@
 use Rattle.std.specs.Prelude.{◌<◌, length, ◌≡◌, ℕ, ◌==◌, ◌||◌, ◌&&◌, not, Bool, true, List, [], ◌∷◌, ◌++◌, filter, map}
 use Rattle.std.specs.Prelude.{Option, Some, None, if◌then◌else◌}
 use Rattle.std.specs.List.{AllByRecursion, flat_map, list_any}
-use Rattle.ack_ranges.specs.declared.range.Range.{Range}
-use Rattle.ack_ranges.specs.Ranges.{in_range}
+use Rattle.rm_sides.specs.declared.ranges.range.Range.{Range}
+use Rattle.rm_sides.specs.Ranges.Ranges.{in_range}
 use Rattle.std.specs.Option.{option_to_list}
 use Rattle.rm_timers.specs.declared.timers.Key.{Key}
 use Rattle.key_timers.specs.declared.cells.Cell.{Cell}

@@ -5,7 +5,7 @@ ghost use Rattle.node_waits.specs.Keys.Settled.{first_key as first_key_of, has_n
 ghost use Rattle.node_waits.specs.Keys.Settled.{all_of, each_of, touched_by};
 ghost use Rattle.record_batch.specs.Fact.{fact_of};
 
-use ack_ranges::Range;
+use rm_sides::ranges::Range;
 use record_batch::Record;
 use rm_base::Memory;
 use rm_timers::Key;

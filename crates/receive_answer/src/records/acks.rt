@@ -1,7 +1,7 @@
 //! The rows of acknowledgements: WS-ReliableMessaging 1.2, section 3.9.
 ghost use Rattle.std.specs.Prelude.{◌≡◌, [], ◌∷◌, IfOk, OnOk};
 ghost use Rattle.std.specs.List.{AllByRecursion};
-ghost use Rattle.ack_ranges.specs.Changes.{united};
+ghost use Rattle.rm_sides.specs.Ranges.Changes.{united};
 ghost use Rattle.sequence_table.specs.Sources.{is_sending as is_sending_in};
 ghost use Rattle.rm_protocol.specs.Next.{HasRanges, IsNumberRange};
 ghost use Rattle.rm_protocol.specs.Rows.{
@@ -13,12 +13,12 @@ ghost use Rattle.rm_protocol.specs.Rows.{
 };
 ghost use Rattle.receive_answer.specs.Records.WithRow.{with_row};
 
-use ack_ranges::{Range, RangeSet};
+use rm_sides::ranges::{Range, RangeSet};
 use node_messages::ranges_of;
 use record_batch::Record;
 use rm_base::Memory;
 use rm_elements::AckBlock;
-use rm_source::OutPhase;
+use rm_sides::source::OutPhase;
 use std::alloc::Global;
 use tables_ahead::Known;
 

@@ -21,7 +21,7 @@ use record_batch::Record;
 use rm_base::limits::WINDOW;
 use rm_base::{Cause, Ident, Memory, Payload, Uri};
 use rm_elements::{CreateResponse, Finish, SeqHeader};
-use rm_source::OutPhase;
+use rm_sides::source::OutPhase;
 use std::alloc::Global;
 use tables_ahead::Known;
 use wsa_headers::copy_reference;

@@ -21,7 +21,7 @@ use record_batch::Record;
 use rm_base::{Memory, Uri};
 use rm_elements::MESSAGING;
 use rm_message::{FaultBody, FaultKind, ROLLOVER};
-use rm_source::OutPhase;
+use rm_sides::source::OutPhase;
 use soap_profile::{Element, Name};
 use std::alloc::Global;
 use tables_ahead::Known;

@@ -2,7 +2,7 @@
 //! 3.9.
 ghost use Rattle.std.specs.Prelude.{◌≡◌, ◌++◌, nat_lt};
 ghost use Rattle.std.specs.List.{list_any};
-ghost use Rattle.ack_ranges.specs.declared.range.Range.{Range as Numbers};
+ghost use Rattle.rm_sides.specs.declared.ranges.range.Range.{Range as Numbers};
 ghost use Rattle.rm_protocol.specs.Verdict.{
   is_above as is_above_in,
   is_invalid as is_invalid_in,
@@ -13,7 +13,7 @@ ghost use Rattle.rm_protocol.specs.Verdict.{
 };
 ghost use Rattle.tables_ahead.specs.Known.{all_records};
 
-use ack_ranges::Range;
+use rm_sides::ranges::Range;
 use node_messages::ranges_of;
 use rm_base::Ident;
 use rm_elements::AckBlock;

@@ -5,7 +5,7 @@ use Rattle.std.specs.List.{AllByRecursion}
 use Rattle.rm_base.specs.declared.message.Behaviour.{Behaviour}
 use Rattle.rm_base.specs.declared.message.Behaviour.TheVariants.{FollowingFirstGap}
 use Rattle.record_batch.specs.Fact.{Fact, Creating, Granted}
-use Rattle.rm_destination.specs.Incoming.{is_loose}
+use Rattle.rm_sides.specs.Destination.Incoming.{is_loose}
 use Rattle.sequence_table.specs.Destinations.{behaviour, behaviour_of}
 use Rattle.sequence_table.specs.Makers.{Maker, Outgoing, Offered, Incoming, Taken, maker, makers, makers_of}
 use Rattle.rm_protocol.specs.Announced.{IsGrantedSo}

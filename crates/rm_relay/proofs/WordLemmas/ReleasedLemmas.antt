@@ -5,18 +5,19 @@ use Rattle.std.specs.Prelude.{Option, ◌&&◌, slice_get}
 use Rattle.std.specs.List.{AllByRecursion}
 use Rattle.std.proofs.lemmas.Bool.{cases_Bool, true≢false}
 use Rattle.std.proofs.lemmas.List.{take-append-drop}
-use Rattle.ack_ranges.specs.declared.range.Range.{Range}
-use Rattle.ack_ranges.specs.Ranges.{count_of, in_ranges}
+use Rattle.rm_sides.specs.declared.ranges.range.Range.{Range}
+use Rattle.rm_sides.specs.Ranges.Ranges.{count_of, in_ranges}
 use Rattle.rm_base.specs.NumberSet.{greatest_of}
 use Rattle.rm_base.specs.Numbered.{numbered}
 use Rattle.rm_base.specs.declared.message.Behaviour.{Behaviour}
 use Rattle.rm_base.specs.declared.message.Behaviour.TheVariants.{EntireSequence, FollowingFirstGap, NoDiscard}
 use Rattle.rm_base.specs.declared.message.Payload.{Payload}
-use Rattle.rm_destination.specs.ItemLemmas.{length-numbers_in, numbers_of-there, there-sorted}
-use Rattle.rm_destination.specs.LooseLemmas.{inbox_of-loose}
-use Rattle.rm_destination.specs.Messages.{Item, contents_of, gone_items, item_at, numbers_in, payload_in, sorted_onto}
-use Rattle.rm_destination.specs.Messages.{there_items, without_gap}
-use Rattle.rm_destination.specs.Incoming.{inbox_of, is_loose, is_whole_by, last_number}
+use Rattle.rm_sides.specs.Destination.ItemLemmas.{length-numbers_in, numbers_of-there, there-sorted}
+use Rattle.rm_sides.specs.Destination.LooseLemmas.{inbox_of-loose}
+use Rattle.rm_sides.specs.Destination.Messages.{Item, contents_of, gone_items, item_at, numbers_in, payload_in}
+use Rattle.rm_sides.specs.Destination.Messages.{sorted_onto}
+use Rattle.rm_sides.specs.Destination.Messages.{there_items, without_gap}
+use Rattle.rm_sides.specs.Destination.Incoming.{inbox_of, is_loose, is_whole_by, last_number}
 use Rattle.record_batch.specs.Fact.{Fact, Received, Purged}
 use Rattle.sequence_table.specs.Destinations.{behaviour, cursor, inbox, items, messages, purged, received}
 use Rattle.sequence_table.specs.Destinations.{received_of, released, told}

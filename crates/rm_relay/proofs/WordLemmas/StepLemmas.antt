@@ -11,7 +11,7 @@ use Rattle.rm_message.specs.declared.refusal.Refusal.{Refusal}
 use Rattle.rm_script.specs.declared.event.Side.{Side}
 use Rattle.rm_script.specs.declared.event.Side.TheVariants as side
 use Rattle.record_batch.specs.Fact.{Fact, Accepted, Consumed, Dropped}
-use Rattle.rm_destination.specs.Messages.{item_at}
+use Rattle.rm_sides.specs.Destination.Messages.{item_at}
 use Rattle.sequence_table.specs.Destinations.{inbox}
 use Rattle.sequence_table.specs.Find.{find_from}
 use Rattle.sequence_table.specs.Fits.{is_incoming_side, is_outgoing_side}

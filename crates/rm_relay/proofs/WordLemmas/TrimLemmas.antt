@@ -6,9 +6,9 @@ use Rattle.std.specs.List.{AllByRecursion, flat_map}
 use Rattle.std.proofs.lemmas.Bool.{eqb-true}
 use Rattle.std.proofs.lemmas.List.{length-append}
 use Rattle.std.proofs.lemmas.List.Concat.{flat_map-append}
-use Rattle.ack_ranges.specs.Changes.{united}
-use Rattle.ack_ranges.specs.Laws.{EndsAreRight}
-use Rattle.ack_ranges.specs.Ranges.{front_of}
+use Rattle.rm_sides.specs.Ranges.Changes.{united}
+use Rattle.rm_sides.specs.Ranges.Laws.{EndsAreRight}
+use Rattle.rm_sides.specs.Ranges.Ranges.{front_of}
 use Rattle.rm_base.specs.NumberSet.{greatest_of}
 use Rattle.record_batch.specs.Fact.{Fact, Consumed, Purged}
 use Rattle.record_snapshot.specs.Same.{HaveProper, IsLive, SetsUnite}

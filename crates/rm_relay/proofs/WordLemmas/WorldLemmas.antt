@@ -12,7 +12,7 @@ use Rattle.rm_protocol.specs.Pair.{APairTells, Act, AreBrought, Gained, IsPair}
 use Rattle.rm_protocol.specs.Pair.{IssuedByOne, MayBefall, MayGoOn, PairStep, PairsTurn, StaysAPair}
 use Rattle.rm_protocol.specs.Pair.{TellsOf}
 use Rattle.rm_protocol.specs.Pair.{acted, left}
-use Rattle.ack_ranges.specs.Laws.{EndsAreRight}
+use Rattle.rm_sides.specs.Ranges.Laws.{EndsAreRight}
 use Rattle.record_snapshot.specs.Same.{IsLive, SetsUnite}
 use Rattle.rm_protocol.specs.Exact.{AckedWereAccepted}
 use Rattle.rm_protocol.specs.Sound.{NothingIsGone, Says}

@@ -1,10 +1,10 @@
 -- What a node relays: the first sequence that it receives on, and the first that it sends on.
 use Rattle.std.specs.Prelude.{◌≡◌, ℕ, ◌+◌, ◌≤◌, List, [], Option, Some}
-use Rattle.ack_ranges.specs.Ranges.{front_of}
-use Rattle.ack_ranges.specs.Changes.{united}
+use Rattle.rm_sides.specs.Ranges.Ranges.{front_of}
+use Rattle.rm_sides.specs.Ranges.Changes.{united}
 use Rattle.rm_base.specs.declared.message.Payload.{Payload}
 use Rattle.record_batch.specs.Fact.{Fact}
-use Rattle.rm_destination.specs.Messages.{item_at}
+use Rattle.rm_sides.specs.Destination.Messages.{item_at}
 use Rattle.sequence_table.specs.Destinations.{cursor, inbox}
 use Rattle.sequence_table.specs.Find.{find_from}
 use Rattle.sequence_table.specs.Fits.{is_incoming_side, is_outgoing_side}

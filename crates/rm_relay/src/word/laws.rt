@@ -2,7 +2,7 @@
 ghost use Rattle.rm_relay.specs.Word.Roles.{IsStrangeToTheOthers};
 ghost use Rattle.rm_relay.specs.Word.Word.{EachRelayKeepsItsWord};
 
-use ack_ranges::ends_are_right;
+use rm_sides::ranges::ends_are_right;
 use record_snapshot::laws::sets_unite;
 use rm_protocol::laws::{
     a_pair_tells, a_pair_turns, an_identifier_tells_its_node, two_made_nodes_are_a_pair,

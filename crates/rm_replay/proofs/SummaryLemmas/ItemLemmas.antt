@@ -7,7 +7,7 @@ use Rattle.std.proofs.lemmas.List.{at_drop_more, drop_all}
 use Rattle.std.proofs.lemmas.Option.{slice_get-get_or}
 use Rattle.rm_base.specs.Numbered.{numbered}
 use Rattle.rm_base.specs.NumberSetLemmas.{lt-or-le}
-use Rattle.rm_destination.specs.Messages.{Item, item_at, payload_in}
+use Rattle.rm_sides.specs.Destination.Messages.{Item, item_at, payload_in}
 use Rattle.rm_report.specs.declared.summary.Place.{Place}
 use Rattle.rm_replay.specs.Summary.Summary.{items_text, there_text}
 

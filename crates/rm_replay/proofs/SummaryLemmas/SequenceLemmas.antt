@@ -5,12 +5,12 @@ use Rattle.std.specs.Prelude.{slice_get}
 use Rattle.std.proofs.lemmas.Bool.{ne_eqb}
 use Rattle.std.proofs.lemmas.Option.{none-some, same_Some, slice_get-get_or}
 use Rattle.rm_base.specs.declared.message.Behaviour.{Behaviour}
-use Rattle.rm_source.specs.Outgoing.{Sending, accepted_count}
-use Rattle.rm_destination.specs.Incoming.{Receiving, phase_of, held as held_in, inbox as inbox_in}
-use Rattle.rm_destination.specs.Incoming.{discarded as discarded_in}
-use Rattle.rm_destination.specs.Messages.{Item, ranges_onto}
-use Rattle.rm_destination.specs.declared.outcome.InPhase.{InPhase}
-use Rattle.rm_destination.specs.declared.outcome.InPhase.TheVariants.{Open, Closed, Ended}
+use Rattle.rm_sides.specs.Source.Outgoing.{Sending, accepted_count}
+use Rattle.rm_sides.specs.Destination.Incoming.{Receiving, phase_of, held as held_in, inbox as inbox_in}
+use Rattle.rm_sides.specs.Destination.Incoming.{discarded as discarded_in}
+use Rattle.rm_sides.specs.Destination.Messages.{Item, ranges_onto}
+use Rattle.rm_sides.specs.declared.destination.outcome.InPhase.{InPhase}
+use Rattle.rm_sides.specs.declared.destination.outcome.InPhase.TheVariants.{Open, Closed, Ended}
 use Rattle.record_batch.specs.Fact.{Fact}
 use Rattle.sequence_table.specs.Makers.{Maker, Outgoing, Offered, Incoming, Taken, maker, makers}
 use Rattle.sequence_table.specs.Destinations.{behaviour, behaviour_of, cursor, discarded, held, inbox}

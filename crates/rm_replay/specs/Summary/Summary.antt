@@ -1,9 +1,9 @@
 -- What a node with these records knows of each of its sequences, as text.
 use Rattle.std.specs.Prelude.{ℕ, zero, suc, ◌+◌, if◌then◌else◌, List, [], ◌∷◌, ◌++◌, length, None, Some}
-use Rattle.ack_ranges.specs.Changes.{united}
-use Rattle.rm_destination.specs.Messages.{Item, ranges_onto}
-use Rattle.rm_destination.specs.declared.outcome.InPhase.{InPhase}
-use Rattle.rm_destination.specs.declared.outcome.InPhase.TheVariants.{Open, Closed, Ended}
+use Rattle.rm_sides.specs.Ranges.Changes.{united}
+use Rattle.rm_sides.specs.Destination.Messages.{Item, ranges_onto}
+use Rattle.rm_sides.specs.declared.destination.outcome.InPhase.{InPhase}
+use Rattle.rm_sides.specs.declared.destination.outcome.InPhase.TheVariants.{Open, Closed, Ended}
 use Rattle.record_batch.specs.Fact.{Fact}
 use Rattle.sequence_table.specs.Makers.{makers, maker}
 use Rattle.sequence_table.specs.Sources.{accepted_count, acked, phase}

@@ -1,5 +1,5 @@
 //! What the rows of a table need: the parts of records, and the bytes of a batch both ways.
-use ack_ranges::RangeSet;
+use rm_sides::ranges::RangeSet;
 use node_laws::sizes::batch_len;
 use node_laws::sizes::laws::a_batch_that_fits_is_short;
 use record_batch::{BatchError, Record, read_batch, write_batch};

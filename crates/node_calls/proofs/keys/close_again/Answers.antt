@@ -1,5 +1,5 @@
 use Rattle.std.proofs.Common.{refl, arith, ap}
-use Rattle.rm_source.specs.declared.phase.OutPhase.TheVariants as out
+use Rattle.rm_sides.specs.declared.source.phase.OutPhase.TheVariants as out
 use Rattle.tables_ahead.specs.Known.{all_records}
 use Rattle.node_calls.specs.Records.{is_finishing}
 use Rattle.node_calls.proofs.KeyLemmas.{no-peer, number-begun}

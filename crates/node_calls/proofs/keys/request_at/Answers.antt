@@ -1,6 +1,6 @@
 use Rattle.std.proofs.Common.{◌≡◌, subst, sym}
 use Rattle.std.specs.Prelude.{IfOk}
-use Rattle.rm_source.specs.declared.phase.OutPhase.{OutPhase}
+use Rattle.rm_sides.specs.declared.source.phase.OutPhase.{OutPhase}
 use Rattle.rm_protocol.specs.Messages.{request_by}
 use Rattle.tables_ahead.specs.Known.{all_records}
 use Rattle.node_calls.proofs.keys.request_at.Goals as goal

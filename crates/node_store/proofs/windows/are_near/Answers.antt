@@ -1,4 +1,4 @@
-use Rattle.rm_destination.specs.Incoming.{items}
+use Rattle.rm_sides.specs.Destination.Incoming.{items}
 use Rattle.node_store.proofs.WindowLemmas.{are_near-decides}
 use Rattle.node_store.proofs.windows.are_near.Goals as goal
 

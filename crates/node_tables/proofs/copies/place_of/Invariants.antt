@@ -1,6 +1,6 @@
 use Rattle.std.proofs.Common.{◌≡◌, drop}
 use Rattle.rm_base.specs.NumberSet.{has_number}
-use Rattle.rm_destination.specs.Messages.{numbers_of}
+use Rattle.rm_sides.specs.Destination.Messages.{numbers_of}
 use Rattle.node_tables.proofs.copies.place_of.Given as goal
 
 -- the number is among those that are left, where it is there

@@ -1,5 +1,5 @@
 use Rattle.std.proofs.Common.{◌∙◌, ◌==◌, ap, length, List}
-use Rattle.ack_ranges.specs.declared.range.Range.{Range}
+use Rattle.rm_sides.specs.declared.ranges.range.Range.{Range}
 use Rattle.node_tables.proofs.RowsLemmas.{none-received}
 use Rattle.node_tables.proofs.rows.is_untouched.Goals as goal
 

@@ -1,6 +1,6 @@
 use Rattle.std.proofs.Common.{◌≡◌, [], drop}
 use Rattle.std.specs.List.{AllByRecursion}
-use Rattle.ack_ranges.specs.Changes.{united}
+use Rattle.rm_sides.specs.Ranges.Changes.{united}
 use Rattle.node_tables.specs.Shorter.{IsRange}
 use Rattle.node_tables.proofs.snapshot.set_of.Given as goal
 

@@ -1,6 +1,6 @@
 use Rattle.std.proofs.Common.{◌≡◌, ◌++◌, List, ℕ, ap, subst, sym, ◌∙◌, arith, length}
 use Rattle.std.specs.Prelude.{OnOk}
-use Rattle.rm_destination.specs.Incoming.{inbox}
+use Rattle.rm_sides.specs.Destination.Incoming.{inbox}
 use Rattle.rm_host.specs.Sequences.{passed_lines}
 use Rattle.rm_host.proofs.SequenceLemmas.{passed_lines-all, passed_lines-gone}
 use Rattle.rm_host.proofs.items.push_inbox.Goals as goal

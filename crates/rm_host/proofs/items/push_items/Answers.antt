@@ -1,6 +1,6 @@
 use Rattle.std.proofs.Common.{◌+◌, ◌++◌, ◌<◌, append_assoc, append-nil, sym, ap, ◌∙◌}
-use Rattle.rm_destination.specs.Incoming.{inbox}
-use Rattle.rm_destination.specs.Messages.{item_at}
+use Rattle.rm_sides.specs.Destination.Incoming.{inbox}
+use Rattle.rm_sides.specs.Destination.Messages.{item_at}
 use Rattle.rm_host.specs.Sequences.{passed_lines, there_line}
 use Rattle.rm_host.proofs.SequenceLemmas.{passed_lines-next, passed_lines-none}
 use Rattle.rm_host.proofs.items.push_items.Goals as goal

@@ -1,5 +1,5 @@
 use Rattle.std.proofs.Common.{◌≡◌, ◌++◌}
-use Rattle.rm_destination.specs.Incoming.{inbox}
+use Rattle.rm_sides.specs.Destination.Incoming.{inbox}
 use Rattle.rm_host.specs.Sequences.{passed_lines}
 use Rattle.rm_host.proofs.items.push_items.Given as goal
 

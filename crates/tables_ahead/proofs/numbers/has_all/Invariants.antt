@@ -1,5 +1,5 @@
 use Rattle.std.proofs.Common.{◌≡◌, drop}
-use Rattle.ack_ranges.specs.Changes.{covers_all}
+use Rattle.rm_sides.specs.Ranges.Changes.{covers_all}
 use Rattle.tables_ahead.proofs.numbers.has_all.Given as goal
 
 abbrev pub invariant-loop-other : goal.invariant-loop-other

@@ -1,5 +1,5 @@
 use Rattle.std.proofs.Common.{◌≡◌, drop}
-use Rattle.ack_ranges.specs.Changes.{covers}
+use Rattle.rm_sides.specs.Ranges.Changes.{covers}
 use Rattle.tables_ahead.proofs.numbers.has_range.Given as goal
 
 abbrev pub invariant-loop-range : goal.invariant-loop-range

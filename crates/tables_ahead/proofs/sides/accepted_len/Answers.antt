@@ -1,5 +1,5 @@
 use Rattle.std.proofs.Common.{sym, ap, ◌∙◌}
-use Rattle.rm_source.specs.Outgoing.{Sending, accepted_count}
+use Rattle.rm_sides.specs.Source.Outgoing.{Sending, accepted_count}
 use Rattle.tables_ahead.proofs.SideLemmas.{not-sending}
 use Rattle.tables_ahead.proofs.sides.accepted_len.Goals as goal
 

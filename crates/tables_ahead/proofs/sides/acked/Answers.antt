@@ -1,5 +1,5 @@
 use Rattle.std.proofs.Common.{[], sym, ap, ◌∙◌}
-use Rattle.ack_ranges.specs.Changes.{united}
+use Rattle.rm_sides.specs.Ranges.Changes.{united}
 use Rattle.tables_ahead.proofs.SideLemmas.{not-sending}
 use Rattle.tables_ahead.proofs.sides.acked.Goals as goal
 

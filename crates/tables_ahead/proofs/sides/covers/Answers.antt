@@ -1,8 +1,8 @@
 use Rattle.std.proofs.Common.{◌≡◌, ◌==◌, List, [], ◌∷◌, length, refl, arith, sym, ap, ◌∙◌}
 use Rattle.std.proofs.lemmas.Bool.{ne_eqb}
-use Rattle.ack_ranges.specs.declared.range.Range.{Range}
-use Rattle.ack_ranges.specs.Changes.{covers_all, united}
-use Rattle.rm_source.specs.Outgoing.{Sending}
+use Rattle.rm_sides.specs.declared.ranges.range.Range.{Range}
+use Rattle.rm_sides.specs.Ranges.Changes.{covers_all, united}
+use Rattle.rm_sides.specs.Source.Outgoing.{Sending}
 use Rattle.tables_ahead.proofs.SideLemmas.{not-sending}
 use Rattle.tables_ahead.proofs.sides.covers.Goals as goal
 

@@ -1,5 +1,5 @@
 use Rattle.std.proofs.Common.{[], length, sym, ap, ◌∙◌}
-use Rattle.rm_destination.specs.Messages.{sorted_onto, without_gap}
+use Rattle.rm_sides.specs.Destination.Messages.{sorted_onto, without_gap}
 use Rattle.tables_ahead.proofs.FrontLemmas.{one-front}
 use Rattle.tables_ahead.proofs.SideLemmas.{not-receiving}
 use Rattle.tables_ahead.proofs.sides.front.Goals as goal

@@ -1,6 +1,6 @@
 use Rattle.std.proofs.Common.{sym, ap, ◌∙◌}
 use Rattle.std.specs.Prelude.{not}
-use Rattle.rm_destination.specs.Messages.{any_true}
+use Rattle.rm_sides.specs.Destination.Messages.{any_true}
 use Rattle.tables_ahead.proofs.SideLemmas.{ended-shut, not-receiving}
 use Rattle.tables_ahead.proofs.sides.has_end.Goals as goal
 

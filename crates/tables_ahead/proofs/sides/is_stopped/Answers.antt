@@ -1,6 +1,6 @@
 use Rattle.std.proofs.Common.{sym, ap, ◌∙◌}
 use Rattle.std.specs.Prelude.{not}
-use Rattle.rm_destination.specs.Messages.{is_empty}
+use Rattle.rm_sides.specs.Destination.Messages.{is_empty}
 use Rattle.tables_ahead.proofs.SideLemmas.{stopped-shut, not-receiving}
 use Rattle.tables_ahead.proofs.sides.is_stopped.Goals as goal
 

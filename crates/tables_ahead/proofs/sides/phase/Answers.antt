@@ -1,5 +1,5 @@
 use Rattle.std.proofs.Common.{sym, ap, ◌∙◌}
-use Rattle.rm_source.specs.Outgoing.{Sending}
+use Rattle.rm_sides.specs.Source.Outgoing.{Sending}
 use Rattle.tables_ahead.proofs.SideLemmas.{not-sending}
 use Rattle.tables_ahead.proofs.sides.phase.Goals as goal
 

@@ -1,6 +1,6 @@
 use Rattle.std.proofs.Common.{[], sym, ap, ◌∙◌}
-use Rattle.rm_destination.specs.Messages.{ranges_onto}
-use Rattle.rm_destination.specs.Messages.{numbers_of}
+use Rattle.rm_sides.specs.Destination.Messages.{ranges_onto}
+use Rattle.rm_sides.specs.Destination.Messages.{numbers_of}
 use Rattle.tables_ahead.proofs.SideLemmas.{not-receiving}
 use Rattle.tables_ahead.proofs.sides.received.Goals as goal
 

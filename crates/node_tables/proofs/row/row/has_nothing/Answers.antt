@@ -1,6 +1,6 @@
 use Rattle.std.proofs.Common.{◌==◌, [], length, ap, ◌∙◌}
-use Rattle.rm_destination.specs.Incoming.{held}
-use Rattle.rm_destination.specs.Messages.{ranges_onto}
+use Rattle.rm_sides.specs.Destination.Incoming.{held}
+use Rattle.rm_sides.specs.Destination.Messages.{ranges_onto}
 use Rattle.node_tables.proofs.RowLemmas.GoneLemmas.{ranges_onto-empty, length-empty}
 use Rattle.node_tables.proofs.row.row.has_nothing.Goals as goal
 

@@ -1,5 +1,5 @@
 use Rattle.std.proofs.Common.{◌∙◌, ap, sym}
-use Rattle.rm_source.specs.Outgoing.{Sending}
+use Rattle.rm_sides.specs.Source.Outgoing.{Sending}
 use Rattle.node_waits.proofs.KeysLemmas.GoneLemmas.{gone-silent, none-silent}
 use Rattle.node_waits.proofs.keys.mounts.gone_of.Goals as goal
 

@@ -1,6 +1,6 @@
 use Rattle.std.proofs.Common.{◌≡◌, [], drop}
 use Rattle.std.specs.List.{AllByRecursion}
-use Rattle.ack_ranges.specs.Changes.{united}
+use Rattle.rm_sides.specs.Ranges.Changes.{united}
 use Rattle.rm_protocol.specs.Next.{IsNumberRange}
 use Rattle.receive_answer.proofs.records.acks.numbers_of.Given as goal
 

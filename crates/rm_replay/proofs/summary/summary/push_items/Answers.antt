@@ -1,7 +1,7 @@
 use Rattle.std.proofs.Common.{◌+◌, ◌++◌, ◌<◌, ◌≤◌, drop, append_assoc, append-nil, arith, length, sym, ap}
 use Rattle.std.proofs.Common.{◌∙◌}
-use Rattle.rm_destination.specs.Incoming.{inbox}
-use Rattle.rm_destination.specs.Messages.{item_at}
+use Rattle.rm_sides.specs.Destination.Incoming.{inbox}
+use Rattle.rm_sides.specs.Destination.Messages.{item_at}
 use Rattle.rm_replay.specs.Summary.Summary.{items_text, there_text}
 use Rattle.rm_replay.proofs.SummaryLemmas.ItemLemmas.{items_text-gone, items_text-next, items_text-none}
 use Rattle.rm_replay.proofs.summary.summary.push_items.Goals as goal

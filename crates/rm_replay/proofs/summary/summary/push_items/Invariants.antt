@@ -1,5 +1,5 @@
 use Rattle.std.proofs.Common.{◌≡◌, ◌++◌, drop}
-use Rattle.rm_destination.specs.Incoming.{inbox}
+use Rattle.rm_sides.specs.Destination.Incoming.{inbox}
 use Rattle.rm_replay.specs.Summary.Summary.{items_text}
 use Rattle.rm_replay.proofs.summary.summary.push_items.Given as goal
 

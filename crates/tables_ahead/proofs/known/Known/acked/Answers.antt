@@ -1,5 +1,5 @@
 use Rattle.std.proofs.Common.{[], ◌++◌, List, map, sym, ap, ◌∙◌}
-use Rattle.ack_ranges.specs.Changes.{united}
+use Rattle.rm_sides.specs.Ranges.Changes.{united}
 use Rattle.record_batch.specs.declared.record.Record.{Record}
 use Rattle.record_batch.specs.Fact.{fact_of}
 use Rattle.sequence_table.specs.Sources.{acked}

@@ -1,5 +1,5 @@
 use Rattle.std.proofs.Common.{◌≡◌, [], ◌++◌, List, map, true, sym, subst, ap, ◌∙◌}
-use Rattle.rm_destination.specs.Messages.{numbers_of, ranges_onto}
+use Rattle.rm_sides.specs.Destination.Messages.{numbers_of, ranges_onto}
 use Rattle.record_batch.specs.declared.record.Record.{Record}
 use Rattle.record_batch.specs.Fact.{fact_of}
 use Rattle.sequence_table.specs.Destinations.{held, received}

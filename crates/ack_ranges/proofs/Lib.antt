@@ -1,5 +1,0 @@
-pub mod ChangesLemmas
-pub mod CountLemmas
-pub mod RangesLemmas
-pub mod MissingLemmas
-pub mod MergeLemmas

@@ -1,5 +1,0 @@
-use Rattle.ack_ranges.proofs.RangesLemmas.{IsFront-front_of, IsGreatest-greatest_of}
-use Rattle.ack_ranges.proofs.laws.ends_are_right.Goals as goal
-
-pub returns : goal.returns
-returns c = record { front = IsFront-front_of; greatest = IsGreatest-greatest_of }

@@ -1,6 +1,0 @@
-use Rattle.std.proofs.Common.{◌≡◌, ◌+◌, take}
-use Rattle.ack_ranges.specs.Ranges.{count_of}
-use Rattle.ack_ranges.proofs.range.count_between.Given as goal
-
-abbrev pub invariant-loop-place : goal.invariant-loop-place
-invariant-loop-place l = l.count + count_of (take l.from l.ranges) ≡ count_of (take l.place l.ranges)

@@ -1,4 +1,0 @@
-pub mod ForgetLemmas
-mod InboxLemmas
-pub mod KeptLemmas
-pub mod LawLemmas

@@ -1,8 +1,0 @@
-pub mod FrontLemmas
-pub mod Incoming
-pub mod ItemLemmas
-pub mod Kept
-pub mod Laws
-pub mod LooseLemmas
-pub mod MessageLemmas
-pub mod Messages

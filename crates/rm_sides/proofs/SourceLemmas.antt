@@ -1,0 +1,2 @@
+-- The lemmas of `source`.
+pub mod AckedLemmas

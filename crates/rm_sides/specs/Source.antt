@@ -1,0 +1,4 @@
+-- The definitions of `source`.
+pub mod Kept
+pub mod Laws
+pub mod Outgoing
