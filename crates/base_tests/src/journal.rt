@@ -1,12 +1,12 @@
 //! Tests of a journal on a disk in memory.
 
 ghost use Rattle.std.specs.Prelude.{◌≤◌, length};
-ghost use Rattle.rm_journal.specs.Entries.{longest};
+ghost use Rattle.rm_disk.specs.Journal.Entries.{longest};
 
 use crate::disk::{has_bytes, put};
 use rm_base::Blob;
 use rm_disk::{CrashDisk, MemDisk};
-use rm_journal::{Journal, JournalError};
+use rm_disk::journal::{Journal, JournalError};
 use std::alloc::Global;
 use std::test::Fail;
 

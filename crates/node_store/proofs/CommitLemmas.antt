@@ -15,9 +15,9 @@ use Rattle.rm_disk.specs.Call.{Call, crashes_of}
 use Rattle.rm_disk.specs.Fuse.{Burns}
 use Rattle.rm_disk.specs.Image.{OnlyLeaves}
 use Rattle.rm_disk.specs.ImageLemmas.{only_from, only_weaker}
-use Rattle.rm_journal.specs.Entries.{Bank, StandsAt, StandsForEither}
-use Rattle.rm_journal.specs.Journal.{Fits, with_entry}
-use Rattle.rm_journal.specs.JournalState.{JournalState, end_of, journal_of}
+use Rattle.rm_disk.specs.Journal.Entries.{Bank, StandsAt, StandsForEither}
+use Rattle.rm_disk.specs.Journal.Journal.{Fits, with_entry}
+use Rattle.rm_disk.specs.Journal.JournalState.{JournalState, end_of, journal_of}
 use Rattle.sequence_table.specs.Makers.{counter, draws_of}
 use Rattle.rm_protocol.specs.Node.{records_in}
 use Rattle.node_laws.specs.Records.{BeginsWithMade, IsKept}

@@ -14,10 +14,10 @@ use Rattle.record_snapshot.specs.EachLemmas.{each-acked, each-purged, keeps}
 use Rattle.record_snapshot.specs.GotLemmas.{purge-set}
 use Rattle.record_snapshot.specs.Snapshot.{left_acked, passed, snapshot}
 use Rattle.rm_disk.specs.Call.{Call}
-use Rattle.rm_journal.specs.Entries.{AllFit, block}
-use Rattle.rm_journal.specs.EntryLemmas.{fit_rest}
-use Rattle.rm_journal.specs.Journal.{fits_before}
-use Rattle.rm_journal.specs.JournalState.{end_of}
+use Rattle.rm_disk.specs.Journal.Entries.{AllFit, block}
+use Rattle.rm_disk.specs.Journal.EntryLemmas.{fit_rest}
+use Rattle.rm_disk.specs.Journal.Journal.{fits_before}
+use Rattle.rm_disk.specs.Journal.JournalState.{end_of}
 use Rattle.rm_protocol.specs.AloneLemmas.{records-alone}
 use Rattle.rm_protocol.specs.Calls.{StoreFull}
 use Rattle.rm_protocol.specs.Compact.{fit_as_entries as fit_by, fits_before as before_by, list_size}

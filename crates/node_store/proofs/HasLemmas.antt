@@ -11,9 +11,9 @@ use Rattle.record_batch.specs.Fact.{Fact, Made, Creating, Created, Granted, Acce
 use Rattle.record_batch.specs.Fact.{ClosedOut, Closed, Ending, EndedOut, Ended, Failed, Consumed, Dropped, Purged}
 use Rattle.record_batch.specs.Writable.{IsBatch, IsWritable}
 use Rattle.rm_disk.specs.Call.{Call}
-use Rattle.rm_journal.specs.Entries.{Bank, block}
-use Rattle.rm_journal.specs.EntryLemmas.{end_is, length-block, stands_for_one}
-use Rattle.rm_journal.specs.JournalState.{end_of}
+use Rattle.rm_disk.specs.Journal.Entries.{Bank, block}
+use Rattle.rm_disk.specs.Journal.EntryLemmas.{end_is, length-block, stands_for_one}
+use Rattle.rm_disk.specs.Journal.JournalState.{end_of}
 use Rattle.rm_protocol.specs.Node.{records_in, end_of as end_of_batches}
 use Rattle.rm_protocol.specs.Terms.{Terms}
 use Rattle.node_laws.specs.OwnTerms.{AreOwn}

@@ -6,12 +6,12 @@ use Rattle.record_batch.specs.Batch.{batch_text}
 use Rattle.record_batch.specs.Fact.{Fact}
 use Rattle.record_batch.specs.Writable.{IsBatch}
 use Rattle.rm_disk.specs.Call.{Call, seen_of}
-use Rattle.rm_journal.specs.Entries.{block, list_of, StandsAsBefore, StandsAt}
-use Rattle.rm_journal.specs.EntryLemmas.{end_is, ends_one, length-block}
-use Rattle.rm_journal.specs.Journal.{AnswersImport, Fits, HasRoomFor, IsTooLong as IsLongBefore}
-use Rattle.rm_journal.specs.declared.error.JournalError.{JournalError}
-use Rattle.rm_journal.specs.declared.error.JournalError.TheVariants.{Full}
-use Rattle.rm_journal.specs.JournalState.{JournalState, end_of, journal_of}
+use Rattle.rm_disk.specs.Journal.Entries.{block, list_of, StandsAsBefore, StandsAt}
+use Rattle.rm_disk.specs.Journal.EntryLemmas.{end_is, ends_one, length-block}
+use Rattle.rm_disk.specs.Journal.Journal.{AnswersImport, Fits, HasRoomFor, IsTooLong as IsLongBefore}
+use Rattle.rm_disk.specs.declared.journal.error.JournalError.{JournalError}
+use Rattle.rm_disk.specs.declared.journal.error.JournalError.TheVariants.{Full}
+use Rattle.rm_disk.specs.Journal.JournalState.{JournalState, end_of, journal_of}
 use Rattle.rm_protocol.specs.Node.{records_in}
 use Rattle.sequence_table.specs.Makers.{counter}
 use Rattle.node_laws.specs.Records.{AreValues, IsKept}

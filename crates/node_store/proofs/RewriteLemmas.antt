@@ -15,12 +15,12 @@ use Rattle.rm_disk.specs.Fuse.{Burns}
 use Rattle.rm_disk.specs.Image.{OnlyLeaves}
 use Rattle.rm_disk.specs.ImageLemmas.{only_from}
 use Rattle.rm_disk.specs.Told.{Told}
-use Rattle.rm_journal.specs.Entries.{AllFit, block, list_of, StandsForOneOf}
-use Rattle.rm_journal.specs.EntryLemmas.{blocks-push, end_is, fit_cons, length-block}
-use Rattle.rm_journal.specs.Journal.{Fits, fits_before, list_refusal, next_bank, place_for}
-use Rattle.rm_journal.specs.JournalState.{JournalState, end_of, journal_at}
-use Rattle.rm_journal.specs.declared.error.JournalError.{JournalError}
-use Rattle.rm_journal.specs.declared.error.JournalError.TheVariants.{Full as AtEnd}
+use Rattle.rm_disk.specs.Journal.Entries.{AllFit, block, list_of, StandsForOneOf}
+use Rattle.rm_disk.specs.Journal.EntryLemmas.{blocks-push, end_is, fit_cons, length-block}
+use Rattle.rm_disk.specs.Journal.Journal.{Fits, fits_before, list_refusal, next_bank, place_for}
+use Rattle.rm_disk.specs.Journal.JournalState.{JournalState, end_of, journal_at}
+use Rattle.rm_disk.specs.declared.journal.error.JournalError.{JournalError}
+use Rattle.rm_disk.specs.declared.journal.error.JournalError.TheVariants.{Full as AtEnd}
 use Rattle.rm_protocol.specs.AloneLemmas.{records-alone}
 use Rattle.rm_protocol.specs.Node.{alone}
 use Rattle.sequence_table.specs.Makers.{counter}

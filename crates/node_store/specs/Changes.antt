@@ -4,7 +4,7 @@ use Rattle.rm_disk.specs.Call.{Call, crashes_of}
 use Rattle.rm_disk.specs.Fuse.{Burns}
 use Rattle.rm_disk.specs.Image.{MayLeave, OnlyLeaves}
 use Rattle.rm_disk.specs.Told.{Told}
-use Rattle.rm_journal.specs.Entries.{first_bank}
+use Rattle.rm_disk.specs.Journal.Entries.{first_bank}
 use Rattle.record_batch.specs.Fact.{Fact}
 use Rattle.node_store.specs.Has.{Holds, IsLeftBy, StandsForBatchesAt}
 use Rattle.node_store.specs.Stored.{Stored, with_batch}

@@ -5,8 +5,8 @@ use Rattle.record_batch.specs.Batch.{batch_text}
 use Rattle.record_batch.specs.Fact.{Fact}
 use Rattle.record_batch.specs.Writable.{IsBatch}
 use Rattle.rm_disk.specs.Call.{Call}
-use Rattle.rm_journal.specs.Entries.{Bank, StandsAt, StandsFor}
-use Rattle.rm_journal.specs.Journal.{Fits}
+use Rattle.rm_disk.specs.Journal.Entries.{Bank, StandsAt, StandsFor}
+use Rattle.rm_disk.specs.Journal.Journal.{Fits}
 use Rattle.rm_protocol.specs.Node.{records_in}
 use Rattle.node_laws.specs.Records.{IsKept}
 use Rattle.node_store.specs.Stored.{Stored, with_batch}

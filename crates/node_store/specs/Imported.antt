@@ -3,8 +3,8 @@ use Rattle.std.specs.Prelude.{◌≡◌, ◌+◌, ◌<◌, ℕ, Bool, true, fals
 use Rattle.rm_base.specs.Limits as limits
 use Rattle.record_batch.specs.Fact.{Fact}
 use Rattle.rm_disk.specs.Call.{Call}
-use Rattle.rm_journal.specs.Entries.{list_of, StandsAsBefore}
-use Rattle.rm_journal.specs.JournalState.{journal_of}
+use Rattle.rm_disk.specs.Journal.Entries.{list_of, StandsAsBefore}
+use Rattle.rm_disk.specs.Journal.JournalState.{journal_of}
 use Rattle.rm_protocol.specs.Node.{records_in}
 use Rattle.node_store.specs.declared.error.ImportError.{ImportError}
 use Rattle.node_store.specs.declared.error.ImportError.TheVariants as Variant

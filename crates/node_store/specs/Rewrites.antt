@@ -9,9 +9,9 @@ use Rattle.rm_disk.specs.Call.{crashes_of}
 use Rattle.rm_disk.specs.Fuse.{Burns}
 use Rattle.rm_disk.specs.Image.{OnlyLeaves}
 use Rattle.rm_disk.specs.Told.{Told}
-use Rattle.rm_journal.specs.Entries.{Bank, list_of}
-use Rattle.rm_journal.specs.Journal.{list_refusal, next_bank}
-use Rattle.rm_journal.specs.JournalState.{JournalState, end_of, journal_at}
+use Rattle.rm_disk.specs.Journal.Entries.{Bank, list_of}
+use Rattle.rm_disk.specs.Journal.Journal.{list_refusal, next_bank}
+use Rattle.rm_disk.specs.Journal.JournalState.{JournalState, end_of, journal_at}
 use Rattle.rm_protocol.specs.Calls.{StoreFull}
 use Rattle.rm_protocol.specs.Compact.{compact_cause, fresh_start, may_compact}
 use Rattle.rm_protocol.specs.Node.{Node, alone}

@@ -2,8 +2,8 @@
 use Rattle.std.specs.Prelude.{ℕ, ◌≤◌, ◌<◌, ◌^◌, Bool, true, if◌then◌else◌, List, [], ◌∷◌, ◌++◌, length}
 use Rattle.record_batch.specs.Batch.{batch_text}
 use Rattle.record_batch.specs.Fact.{Fact, Made}
-use Rattle.rm_journal.specs.Journal.{with_entry}
-use Rattle.rm_journal.specs.JournalState.{JournalState, end_of, journal_of}
+use Rattle.rm_disk.specs.Journal.Journal.{with_entry}
+use Rattle.rm_disk.specs.Journal.JournalState.{JournalState, end_of, journal_of}
 use Rattle.sequence_table.specs.Makers.{counter}
 use Rattle.node_laws.specs.Records.{BeginsWithMade}
 

@@ -5,7 +5,7 @@ ghost use Rattle.node_laws.specs.Sizes.Room.{IsWithin};
 ghost use Rattle.record_batch.specs.Fact.{Fact, Made, fact_of};
 ghost use Rattle.rm_base.specs.Text.{IsText};
 ghost use Rattle.rm_disk.specs.Cause.{HasCause};
-ghost use Rattle.rm_journal.specs.JournalState.{end_of};
+ghost use Rattle.rm_disk.specs.Journal.JournalState.{end_of};
 ghost use Rattle.node_tables.specs.Room.{has_room};
 ghost use Rattle.sequence_table.specs.Fits.{all_fit};
 ghost use Rattle.node_store.specs.Changes.{Changes};
@@ -20,7 +20,7 @@ use node_tables::{TableError, Tables};
 use record_batch::{Record, write_batch};
 use rm_base::{Memory, Uri};
 use rm_disk::Disk;
-use rm_journal::{Journal, JournalError};
+use rm_disk::journal::{Journal, JournalError};
 use std::alloc::Global;
 
 /// The batch of a node that is made.

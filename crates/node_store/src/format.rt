@@ -3,15 +3,15 @@ ghost use Rattle.std.specs.Prelude.{◌≡◌, ◌⊎◌, ◌-◌, ◌≤◌, �
 ghost use Rattle.std.specs.Prelude.{IfErr, OnOk};
 ghost use Rattle.rm_disk.specs.Call.{crashes_of, seen_of};
 ghost use Rattle.rm_disk.specs.Cause.{HasCause};
-ghost use Rattle.rm_journal.specs.Journal.{Fits};
-ghost use Rattle.rm_journal.specs.JournalState.{journal_of};
+ghost use Rattle.rm_disk.specs.Journal.Journal.{Fits};
+ghost use Rattle.rm_disk.specs.Journal.JournalState.{journal_of};
 ghost use Rattle.node_store.specs.Changes.{KeepsUnarmed};
 ghost use Rattle.node_store.specs.Failed.{is_disk};
 ghost use Rattle.node_store.specs.declared.error.StoreError.TheVariants.{Memory as WantsMemory, Disk as DiskFails};
 
 use crate::error::StoreError;
 use rm_disk::Disk;
-use rm_journal::{Journal, JournalError};
+use rm_disk::journal::{Journal, JournalError};
 use std::alloc::Global;
 
 /// Makes a disk an empty journal.

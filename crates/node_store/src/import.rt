@@ -5,9 +5,9 @@ ghost use Rattle.rm_base.specs.Limits.{journal_bytes};
 ghost use Rattle.rm_disk.specs.Call.{crashes_of};
 ghost use Rattle.rm_disk.specs.Cause.{HasCause};
 ghost use Rattle.rm_disk.specs.Fuse.{Burns};
-ghost use Rattle.rm_journal.specs.Entries.{list_of, StandsAsBefore};
-ghost use Rattle.rm_journal.specs.Journal.{Fits};
-ghost use Rattle.rm_journal.specs.JournalState.{journal_of};
+ghost use Rattle.rm_disk.specs.Journal.Entries.{list_of, StandsAsBefore};
+ghost use Rattle.rm_disk.specs.Journal.Journal.{Fits};
+ghost use Rattle.rm_disk.specs.Journal.JournalState.{journal_of};
 ghost use Rattle.node_laws.specs.Records.{IsKept};
 ghost use Rattle.node_store.specs.Changes.{KeepsUnarmed};
 ghost use Rattle.node_store.specs.Imported.{Imports, import_failed, IsNoNodeBefore, IsTooLong, ServesAsBefore};
@@ -19,7 +19,7 @@ use crate::error::{ImportError, MountError};
 use crate::mount::serve;
 use node_tables::Tables;
 use rm_disk::{Disk, MemDisk};
-use rm_journal::{Journal, JournalError};
+use rm_disk::journal::{Journal, JournalError};
 use std::alloc::Global;
 
 /// The journal that a disk is made, and the tables of its records. The bytes are tested before the first device call.

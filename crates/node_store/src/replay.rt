@@ -6,7 +6,7 @@ ghost use Rattle.record_batch.specs.Batch.{batch_at, batch_text};
 ghost use Rattle.record_batch.specs.Fact.{Fact, fact_of};
 ghost use Rattle.record_batch.specs.Writable.{IsBatch, IsWritable};
 ghost use Rattle.rm_disk.specs.Cause.{HasCause};
-ghost use Rattle.rm_journal.specs.Journal.{Fits};
+ghost use Rattle.rm_disk.specs.Journal.Journal.{Fits};
 ghost use Rattle.sequence_table.specs.Fits.{all_fit};
 ghost use Rattle.node_laws.specs.Records.{KeepsLimits};
 ghost use Rattle.node_store.specs.Changes.{KeepsUnarmed};
@@ -22,7 +22,7 @@ use record_batch::laws::what_is_written_is_read;
 use record_batch::{BatchError, Record, read_batch};
 use rm_base::Blob;
 use rm_disk::Disk;
-use rm_journal::{Journal, JournalError};
+use rm_disk::journal::{Journal, JournalError};
 use std::alloc::Global;
 
 /// The tables of the records of a journal's entries, where each entry is a batch whose records may come after those

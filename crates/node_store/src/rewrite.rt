@@ -5,7 +5,7 @@ ghost use Rattle.record_batch.specs.Batch.{batch_text};
 ghost use Rattle.record_batch.specs.Fact.{Fact, fact_of};
 ghost use Rattle.rm_base.specs.Limits.{entry_bytes};
 ghost use Rattle.rm_disk.specs.Cause.{HasCause};
-ghost use Rattle.rm_journal.specs.Entries.{list_of};
+ghost use Rattle.rm_disk.specs.Journal.Entries.{list_of};
 ghost use Rattle.rm_protocol.specs.Node.{alone};
 ghost use Rattle.node_store.specs.Has.{entries_of, Holds};
 ghost use Rattle.node_store.specs.Rewrites.{Answers, Rewrites, disk_failed, fit_as_entries, refusal_by};
@@ -21,7 +21,7 @@ use record_batch::{Record, Records, write_batch};
 use rm_base::limits::ENTRY_BYTES;
 use rm_base::{Blob, Memory};
 use rm_disk::Disk;
-use rm_journal::{Journal, JournalError};
+use rm_disk::journal::{Journal, JournalError};
 use std::alloc::Global;
 
 /// What a list of entries measures: how many bytes it takes with the gate behind it, or the greatest number where that

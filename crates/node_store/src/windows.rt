@@ -2,7 +2,7 @@
 ghost use Rattle.std.specs.Prelude.{◌≡◌, ◌↔◌, ◌≤◌, ◌<◌, ◌^◌, ℕ, true, IsTrue};
 ghost use Rattle.rm_base.specs.NumberSet.{has_number};
 ghost use Rattle.rm_sides.specs.Destination.Incoming.{items};
-ghost use Rattle.rm_journal.specs.JournalState.{end_of};
+ghost use Rattle.rm_disk.specs.Journal.JournalState.{end_of};
 ghost use Rattle.sequence_table.specs.Destinations.{front, held};
 ghost use Rattle.sequence_table.specs.Fits.{is_incoming_side, is_outgoing_side};
 ghost use Rattle.sequence_table.specs.Makers.{maker};
@@ -16,7 +16,7 @@ use node_tables::laws::{an_incoming_sequence_is_as_recorded, an_outgoing_sequenc
 use rm_base::limits::{MOST_SEQUENCES, MOST_UNACKED, WINDOW};
 use rm_sides::destination::Incoming;
 use rm_sides::destination::laws::front_is_reached;
-use rm_journal::Journal;
+use rm_disk::journal::Journal;
 
 /// No memory holds a journal of so many bytes.
 pub(crate) const TOO_MANY_BYTES: u64 = 1 << 61;

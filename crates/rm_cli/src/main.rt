@@ -6,7 +6,7 @@ mod run;
 use rm_base::words::{texts_given, words_behind};
 use rm_base::{Blob, Memory, StdClock, StdSink, StdSource};
 use rm_disk::MemDisk;
-use rm_file::FileDisk;
+use rm_disk::file::FileDisk;
 use rm_host::{End, Host, explain};
 use rm_link::TcpLink;
 use rm_base::wire::MemWire;

@@ -9,3 +9,4 @@ pub mod RangeLemmas
 pub mod Spare
 pub mod StateLemmas
 pub mod Told
+pub mod Journal

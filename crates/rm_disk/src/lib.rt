@@ -13,3 +13,7 @@ mod patch;
 
 pub use disk::{CrashDisk, Disk};
 pub use mem::MemDisk;
+
+pub mod file;
+
+pub mod journal;

@@ -17,7 +17,7 @@ use Rattle.record_batch.specs.Batch.{batch_text}
 use Rattle.record_batch.specs.Fact.{Fact}
 use Rattle.record_snapshot.specs.Snapshot.{snapshot}
 use Rattle.rm_disk.specs.Told.{Told}
-use Rattle.rm_journal.specs.EntryLemmas.{length-gates_from}
+use Rattle.rm_disk.specs.Journal.EntryLemmas.{length-gates_from}
 use Rattle.rm_node.specs.Called.{Sleeps}
 use Rattle.rm_node.specs.Compacted.{Compacts, EndsWith, IsCompacted}
 use Rattle.rm_node.specs.Ends.{Broke, Ended, Handed, WasDown, error_end}

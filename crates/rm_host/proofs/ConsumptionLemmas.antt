@@ -23,9 +23,9 @@ use Rattle.rm_sides.specs.Destination.Incoming.{Receiving, inbox as inbox_in}
 use Rattle.rm_disk.specs.Call.{Call, seen_of}
 use Rattle.rm_disk.specs.Image.{MayLeave, OnlyLeaves}
 use Rattle.rm_disk.specs.Told.{Told}
-use Rattle.rm_journal.specs.Entries.{Bank}
+use Rattle.rm_disk.specs.Journal.Entries.{Bank}
 use Rattle.rm_message.specs.declared.message.Message.{Message}
-use Rattle.rm_journal.specs.JournalState.{end_of}
+use Rattle.rm_disk.specs.Journal.JournalState.{end_of}
 use Rattle.rm_node.specs.Called.{Called, Does, EndsBy, Sleeps}
 use Rattle.rm_node.specs.Ends.{Ended, Handed, Refused, Wanted, Broke, error_end}
 use Rattle.rm_node.specs.Noded.{Noded}

@@ -10,9 +10,9 @@ use Rattle.node_store.specs.declared.error.ImportError.TheVariants as import
 use Rattle.record_batch.specs.Batch.{batch_text}
 use Rattle.rm_disk.specs.Call.{Call, seen_of}
 use Rattle.rm_disk.specs.Told.{Told}
-use Rattle.rm_journal.specs.Entries.{first_bank}
-use Rattle.rm_journal.specs.EntryLemmas.{length-gates_from}
-use Rattle.rm_journal.specs.JournalState.{JournalState}
+use Rattle.rm_disk.specs.Journal.Entries.{first_bank}
+use Rattle.rm_disk.specs.Journal.EntryLemmas.{length-gates_from}
+use Rattle.rm_disk.specs.Journal.JournalState.{JournalState}
 use Rattle.rm_host.specs.Ends.{import_end}
 use Rattle.rm_host.specs.Importation.{Brings, FailsToImport, IsNotMade, IsShort}
 use Rattle.rm_host.specs.declared.end.End.{End}

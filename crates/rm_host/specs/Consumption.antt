@@ -12,7 +12,7 @@ use Rattle.rm_base.specs.Outside.{AppendsFront, Stream}
 use Rattle.rm_disk.specs.Call.{Call, seen_of}
 use Rattle.rm_disk.specs.Image.{MayLeave, OnlyLeaves}
 use Rattle.rm_disk.specs.Told.{Told}
-use Rattle.rm_journal.specs.JournalState.{end_of}
+use Rattle.rm_disk.specs.Journal.JournalState.{end_of}
 use Rattle.rm_node.specs.Called.{Called}
 use Rattle.rm_node.specs.Ends.{Ended}
 use Rattle.rm_node.specs.Noded.{Noded}

@@ -9,7 +9,7 @@ use Rattle.rm_base.specs.Limits as limits
 use Rattle.rm_base.specs.Outside.{Stream}
 use Rattle.rm_disk.specs.Call.{Call, seen_of}
 use Rattle.rm_disk.specs.Told.{Told}
-use Rattle.rm_journal.specs.Entries.{list_of, StandsAsBefore}
+use Rattle.rm_disk.specs.Journal.Entries.{list_of, StandsAsBefore}
 use Rattle.rm_host.specs.Texts.{imported_line}
 use Rattle.rm_host.specs.declared.end.End.{End}
 use Rattle.rm_host.specs.declared.end.End.TheVariants as end

@@ -18,7 +18,7 @@ use rm_base::{
     Blob, Clock, Memory, Sink, SinkError, Source, StdClock, StdSink, StdSource, write_all,
 };
 use rm_disk::Disk;
-use rm_file::{Fault as DiskFault, FileDisk, NAME};
+use rm_disk::file::{Fault as DiskFault, FileDisk, NAME};
 use rm_link::{Fault as LinkFault, Link, TcpLink};
 use rm_report::exits;
 use std::alloc::Global;

@@ -9,7 +9,7 @@ use Rattle.record_batch.specs.Fact.{Fact}
 use Rattle.rm_disk.specs.Call.{Call}
 use Rattle.rm_timers.specs.declared.timers.Key.{Key}
 use Rattle.rm_disk.specs.ImageLemmas.{only_from}
-use Rattle.rm_journal.specs.JournalState.{end_of}
+use Rattle.rm_disk.specs.Journal.JournalState.{end_of}
 use Rattle.sequence_table.specs.Words.{Text}
 use Rattle.make_connection.specs.Waiting.{Pended, Waiting}
 use Rattle.rm_message.specs.declared.message.Message.{Message}

@@ -5,7 +5,7 @@ use Rattle.std.specs.Prelude.{is_some, IfSome}
 use Rattle.std.specs.List.{AllByRecursion, flat_map}
 use Rattle.std.specs.Option.{option_to_list}
 use Rattle.std.proofs.lemmas.Bool.{false≢true}
-use Rattle.rm_journal.specs.JournalState.{end_of}
+use Rattle.rm_disk.specs.Journal.JournalState.{end_of}
 use Rattle.rm_timers.specs.declared.timers.Key.{Key}
 use Rattle.rm_timers.specs.Waits.{Entry}
 use Rattle.key_timers.specs.declared.cells.Cell.{Cell}

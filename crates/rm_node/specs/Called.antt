@@ -3,7 +3,7 @@ use Rattle.std.specs.Prelude.{◌≡◌, ◌≢◌, ◌⊎◌, ℕ, Bool, true, 
 use Rattle.rm_disk.specs.Call.{crashes_of}
 use Rattle.rm_disk.specs.Cause.{HasCause}
 use Rattle.rm_disk.specs.Told.{Told}
-use Rattle.rm_journal.specs.JournalState.{end_of}
+use Rattle.rm_disk.specs.Journal.JournalState.{end_of}
 use Rattle.record_batch.specs.Fact.{Fact}
 use Rattle.node_store.specs.Changes.{Changes}
 use Rattle.node_store.specs.Has.{AreOfNode, Has, Holds}

@@ -1,6 +1,6 @@
 -- What a node says to a call, before anything is written.
 use Rattle.std.specs.Prelude.{◌≡◌, ℕ, true, false}
-use Rattle.rm_journal.specs.JournalState.{end_of}
+use Rattle.rm_disk.specs.Journal.JournalState.{end_of}
 use Rattle.rm_protocol.specs.Terms.{Terms}
 use Rattle.node_laws.specs.OwnTerms.{AreOwn}
 use Rattle.rm_node.specs.Asked.{Asked, Asks, IsAsked, is_connected}

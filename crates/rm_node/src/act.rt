@@ -1,6 +1,6 @@
 //! What an answer says is done: its records are written, and then its packets are handed out.
 ghost use Rattle.std.specs.Prelude.{◌≡◌, true, false, is_ok, IfErr, OnOk};
-ghost use Rattle.rm_journal.specs.JournalState.{end_of};
+ghost use Rattle.rm_disk.specs.Journal.JournalState.{end_of};
 ghost use Rattle.node_laws.specs.Answers.Serving.{Serves};
 ghost use Rattle.rm_node.specs.Called.{EndsBy, HasBatches, StaysANode, Wrote};
 ghost use Rattle.rm_node.specs.declared.error.NodeError.TheVariants.{Down as IsDown};

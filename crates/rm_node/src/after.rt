@@ -5,7 +5,7 @@ ghost use Rattle.std.specs.List.{flat_map};
 ghost use Rattle.rm_base.specs.Limits.{most_keys, now_max};
 ghost use Rattle.record_batch.specs.Fact.{Fact, fact_of};
 ghost use Rattle.rm_disk.specs.Cause.{HasCause};
-ghost use Rattle.rm_journal.specs.JournalState.{end_of};
+ghost use Rattle.rm_disk.specs.Journal.JournalState.{end_of};
 ghost use Rattle.node_laws.specs.Sizes.Room.{HasRoom};
 ghost use Rattle.sequence_table.specs.Fits.{all_fit};
 ghost use Rattle.node_store.specs.Changes.{Changes};

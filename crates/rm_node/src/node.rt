@@ -7,7 +7,7 @@ ghost use Rattle.rm_disk.specs.Call.{crashes_of, seen_of};
 ghost use Rattle.rm_disk.specs.Cause.{HasCause};
 ghost use Rattle.rm_disk.specs.Fuse.{Burns};
 ghost use Rattle.rm_disk.specs.Image.{MayLeave, OnlyLeaves};
-ghost use Rattle.rm_journal.specs.Entries.{list_of, StandsAsBefore};
+ghost use Rattle.rm_disk.specs.Journal.Entries.{list_of, StandsAsBefore};
 ghost use Rattle.node_store.specs.Changes.{KeepsUnarmed, WasNotMade};
 ghost use Rattle.node_store.specs.Has.{Has};
 ghost use Rattle.node_store.specs.Imported.{Imports, import_failed, IsNoNodeBefore, IsTooLong};

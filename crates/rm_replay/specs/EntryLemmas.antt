@@ -5,7 +5,7 @@ use Rattle.record_batch.specs.Batch.{batch_text}
 use Rattle.record_batch.specs.Fact.{Fact}
 use Rattle.rm_disk.specs.Call.{Call}
 use Rattle.rm_disk.specs.Told.{Told}
-use Rattle.rm_journal.specs.EntryLemmas.{length-gates_from}
+use Rattle.rm_disk.specs.Journal.EntryLemmas.{length-gates_from}
 use Rattle.rm_protocol.specs.Node.{Node, State, Up, Writing, Compacting}
 use Rattle.node_store.specs.Has.{entries_of}
 use Rattle.node_store.specs.Stored.{Stored}

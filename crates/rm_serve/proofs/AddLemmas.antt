@@ -8,7 +8,7 @@ use Rattle.record_batch.specs.Fact.{Fact}
 use Rattle.rm_disk.specs.Image.{MayLeave}
 use Rattle.rm_disk.specs.ImageLemmas.{left_now}
 use Rattle.rm_disk.specs.Told.{Told}
-use Rattle.rm_journal.specs.Entries.{Bank}
+use Rattle.rm_disk.specs.Journal.Entries.{Bank}
 use Rattle.rm_protocol.specs.Terms.{Terms}
 use Rattle.rm_node.specs.Called.{Called, Sleeps, answer_of}
 use Rattle.rm_node.specs.Ends.{Broke, Ended, Handed, Refused, Wanted, WasDown}

@@ -5,7 +5,7 @@ ghost use Rattle.std.specs.Prelude.{None};
 use rm_base::{Blob, Items, MemSink, MemSource, Memory, Numbers, Sink, SinkError};
 use rm_command::run;
 use rm_disk::MemDisk;
-use rm_journal::{Journal, JournalError};
+use rm_disk::journal::{Journal, JournalError};
 use rm_base::wire::{MemWire, Packet, Wire};
 use rm_replay::Stage;
 use std::alloc::Global;

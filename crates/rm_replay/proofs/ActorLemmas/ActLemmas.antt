@@ -11,9 +11,9 @@ use Rattle.rm_base.specs.declared.failures.Memory.{Memory}
 use Rattle.rm_disk.specs.Call.{Call}
 use Rattle.rm_disk.specs.Fuse.{Burns}
 use Rattle.rm_disk.specs.ImageLemmas.{left_now}
-use Rattle.rm_journal.specs.Entries.{Bank}
-use Rattle.rm_journal.specs.EntryLemmas.{length-gates_from}
-use Rattle.rm_journal.specs.JournalState.{end_of as journal_end}
+use Rattle.rm_disk.specs.Journal.Entries.{Bank}
+use Rattle.rm_disk.specs.Journal.EntryLemmas.{length-gates_from}
+use Rattle.rm_disk.specs.Journal.JournalState.{end_of as journal_end}
 use Rattle.rm_message.specs.declared.message.Message.{Message}
 use Rattle.sequence_table.specs.Words.{Text}
 use Rattle.rm_protocol.specs.Calls.{Answer, Cause, Fetched, Outcome}

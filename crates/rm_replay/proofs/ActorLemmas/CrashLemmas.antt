@@ -8,8 +8,8 @@ use Rattle.record_batch.specs.Writable.{IsBatch}
 use Rattle.rm_disk.specs.Call.{Call, Crashed as Crashes, crashes_of, left_by, seen_of, state}
 use Rattle.rm_disk.specs.Image.{MayLeave, OnlyLeaves}
 use Rattle.rm_disk.specs.ImageLemmas.{crash_leaves_image, left_now, settled_only}
-use Rattle.rm_journal.specs.Entries.{Bank}
-use Rattle.rm_journal.specs.EntryLemmas.{stands_for_one}
+use Rattle.rm_disk.specs.Journal.Entries.{Bank}
+use Rattle.rm_disk.specs.Journal.EntryLemmas.{stands_for_one}
 use Rattle.rm_protocol.specs.Node.{Node, State, Up, Writing, Compacting, entries_left, records_in, start_left}
 use Rattle.rm_protocol.specs.Waiting.{mounted_waits}
 use Rattle.rm_protocol.specs.World.{made}

@@ -8,7 +8,7 @@ use Rattle.rm_base.specs.declared.failures.Memory.{Memory}
 use Rattle.rm_disk.specs.Call.{Call}
 use Rattle.rm_disk.specs.ImageLemmas.{left_now}
 use Rattle.rm_disk.specs.Told.{Told}
-use Rattle.rm_journal.specs.JournalState.{end_of as journal_end}
+use Rattle.rm_disk.specs.Journal.JournalState.{end_of as journal_end}
 use Rattle.rm_protocol.specs.Calls.{Done, Refused as RefusedWith}
 use Rattle.rm_protocol.specs.Compact.{compact_cause, compact_outcome_by, compacted_by, fresh_start, may_compact}
 use Rattle.rm_protocol.specs.Compact.{stops_compacting, with_list}

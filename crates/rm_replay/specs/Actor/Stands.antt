@@ -4,7 +4,7 @@ use Rattle.record_batch.specs.Fact.{Fact}
 use Rattle.rm_disk.specs.Call.{Call, crashes_of}
 use Rattle.rm_disk.specs.Image.{MayLeave}
 use Rattle.rm_base.specs.declared.failures.Memory.{Memory}
-use Rattle.rm_journal.specs.Entries.{Bank}
+use Rattle.rm_disk.specs.Journal.Entries.{Bank}
 use Rattle.rm_protocol.specs.Calls.{Answer}
 use Rattle.rm_protocol.specs.Node.{Node, State, Up, Writing, Compacting, after, call_outcome, fetched_after}
 use Rattle.rm_protocol.specs.Node.{fresh_entries, mounted, said_after}

@@ -1,5 +1,5 @@
 use Rattle.std.proofs.Common.{inr}
-use Rattle.rm_journal.specs.declared.error.JournalError.TheVariants.{NotAJournal, Full}
+use Rattle.rm_disk.specs.declared.journal.error.JournalError.TheVariants.{NotAJournal, Full}
 use Rattle.node_store.proofs.MountLemmas.{answers_at, has_room, too_long}
 use Rattle.node_store.proofs.import.open_before.Goals as goal
 

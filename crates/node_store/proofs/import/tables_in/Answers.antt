@@ -1,6 +1,6 @@
 use Rattle.std.proofs.Common.{◌∙◌, Err, ap, sym, subst, refl}
 use Rattle.std.proofs.lemmas.Result.{err_from_is_err_and}
-use Rattle.rm_journal.specs.JournalState.{JournalState}
+use Rattle.rm_disk.specs.Journal.JournalState.{JournalState}
 use Rattle.node_store.specs.Has.{entries_of}
 use Rattle.node_store.specs.Stored.{IsServing}
 use Rattle.node_store.specs.declared.error.ImportError.{ImportError}

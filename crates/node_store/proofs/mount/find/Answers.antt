@@ -1,10 +1,10 @@
 use Rattle.std.proofs.Common.{◌∙◌, Err, ap, sym, subst}
 use Rattle.std.proofs.lemmas.Result.{err_from_is_err_and}
 use Rattle.rm_disk.specs.Call.{seen_of}
-use Rattle.rm_journal.specs.Entries.{StandsAt}
-use Rattle.rm_journal.specs.EntryLemmas.{stands_for_one}
-use Rattle.rm_journal.specs.Journal.{Fits}
-use Rattle.rm_journal.specs.JournalState.{JournalState}
+use Rattle.rm_disk.specs.Journal.Entries.{StandsAt}
+use Rattle.rm_disk.specs.Journal.EntryLemmas.{stands_for_one}
+use Rattle.rm_disk.specs.Journal.Journal.{Fits}
+use Rattle.rm_disk.specs.Journal.JournalState.{JournalState}
 use Rattle.node_store.specs.Has.{entries_of}
 use Rattle.node_store.specs.Stored.{IsServing}
 use Rattle.node_store.specs.declared.error.MountError.{MountError}

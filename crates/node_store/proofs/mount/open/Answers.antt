@@ -1,5 +1,5 @@
 use Rattle.std.proofs.Common.{Err, ap, ◌∙◌}
-use Rattle.rm_journal.specs.declared.error.JournalError.{JournalError}
+use Rattle.rm_disk.specs.declared.journal.error.JournalError.{JournalError}
 use Rattle.node_store.proofs.mount.open.Goals as goal
 
 pub returns-in-Err-NotAJournal-clause-none : goal.returns-in-Err-NotAJournal-clause-none

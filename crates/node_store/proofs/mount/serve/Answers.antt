@@ -1,8 +1,8 @@
 use Rattle.std.proofs.Common.{◌≤◌, ◌∙◌, Err, ap, sym, subst, arith}
 use Rattle.std.proofs.lemmas.Bool.{false≢true}
 use Rattle.std.proofs.lemmas.Result.{err_from_is_err_and}
-use Rattle.rm_journal.specs.Journal.{Fits}
-use Rattle.rm_journal.specs.JournalState.{JournalState, end_of}
+use Rattle.rm_disk.specs.Journal.Journal.{Fits}
+use Rattle.rm_disk.specs.Journal.JournalState.{JournalState, end_of}
 use Rattle.node_store.specs.Stored.{IsServing}
 use Rattle.node_store.specs.declared.error.MountError.{MountError}
 use Rattle.node_store.proofs.MountLemmas.{kept_of, replayed_of, same_records, served, serving_of, windows_of}

@@ -1,8 +1,8 @@
 use Rattle.std.proofs.Common.{◌≡◌, ◌∙◌, ◌+◌, ◌-◌, ◌≤◌, length, Err, ap, subst, sym, arith}
 use Rattle.std.proofs.lemmas.List.{take_all}
 use Rattle.std.proofs.lemmas.Result.{err_from_is_err_and}
-use Rattle.rm_journal.specs.EntryLemmas.{length-gates_from}
-use Rattle.rm_journal.specs.Journal.{Fits}
+use Rattle.rm_disk.specs.Journal.EntryLemmas.{length-gates_from}
+use Rattle.rm_disk.specs.Journal.Journal.{Fits}
 use Rattle.node_store.specs.Mounted.{IsAdded, IsStuck, Replays}
 use Rattle.node_store.specs.declared.error.MountError.{MountError}
 use Rattle.node_store.proofs.ReplayLemmas.{err_is, none_replayed, replayed-more, replays-more}

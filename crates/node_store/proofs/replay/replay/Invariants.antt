@@ -1,6 +1,6 @@
 use Rattle.std.proofs.Common.{◌≡◌, ℕ, List, None, take}
 use Rattle.std.specs.Prelude.{IsTrue}
-use Rattle.rm_journal.specs.Journal.{Fits}
+use Rattle.rm_disk.specs.Journal.Journal.{Fits}
 use Rattle.node_store.specs.Mounted.{AreReplayedFrom, Replays}
 use Rattle.node_store.proofs.replay.replay.Given as goal
 

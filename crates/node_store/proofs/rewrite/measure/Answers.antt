@@ -3,7 +3,7 @@ use Rattle.std.proofs.Common.{arith}
 use Rattle.std.specs.Prelude.{nat_le}
 use Rattle.std.proofs.lemmas.List.{length-map, take_all}
 use Rattle.record_batch.specs.Fact.{Fact, Made, fact_of}
-use Rattle.rm_journal.specs.Entries.{list_of}
+use Rattle.rm_disk.specs.Journal.Entries.{list_of}
 use Rattle.rm_protocol.specs.Node.{alone}
 use Rattle.node_store.specs.Has.{entries_of}
 use Rattle.node_store.specs.Rewrites.{fit_as_entries}

@@ -1,7 +1,7 @@
 use Rattle.std.proofs.Common.{◌≡◌, ◌∙◌, Err, ap, true, false, refl, sym, subst}
 use Rattle.std.proofs.lemmas.Result.{err_from_is_err_and}
 use Rattle.rm_disk.specs.Cause.{HasCause}
-use Rattle.rm_journal.specs.JournalState.{end_of}
+use Rattle.rm_disk.specs.Journal.JournalState.{end_of}
 use Rattle.rm_node.specs.Asked as asks
 use Rattle.rm_node.specs.Called.{Called}
 use Rattle.rm_node.specs.Ends.{Ended}

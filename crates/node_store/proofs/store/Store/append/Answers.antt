@@ -3,7 +3,7 @@ use Rattle.std.specs.Vec.{vec_len}
 use Rattle.std.proofs.lemmas.Bool.{eqb-true}
 use Rattle.node_laws.specs.Sizes.Room.{HasRoom}
 use Rattle.record_batch.specs.Fact.{fact_of}
-use Rattle.rm_journal.specs.JournalState.{end_of}
+use Rattle.rm_disk.specs.Journal.JournalState.{end_of}
 use Rattle.node_store.specs.Stored.{Stored}
 use Rattle.node_store.proofs.CommitLemmas.{empty_changes, none_of, serving_after}
 use Rattle.node_store.proofs.store.Store.append.Goals as goal

@@ -1,6 +1,6 @@
 use Rattle.std.proofs.Common.{ap, refl}
 use Rattle.std.proofs.lemmas.Result.{err_from_is_err_and}
-use Rattle.rm_journal.specs.JournalState.{end_of}
+use Rattle.rm_disk.specs.Journal.JournalState.{end_of}
 use Rattle.rm_node.specs.Asked.{End}
 use Rattle.rm_node.specs.Ends.{outs_end}
 use Rattle.rm_node.proofs.ComesLemmas.{end-done}

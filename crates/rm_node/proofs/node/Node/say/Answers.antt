@@ -1,5 +1,5 @@
 use Rattle.std.proofs.Common.{◌≡◌, ◌∙◌, ℕ, Bool, List, map, ap, sym, subst}
-use Rattle.rm_journal.specs.JournalState.{end_of}
+use Rattle.rm_disk.specs.Journal.JournalState.{end_of}
 use Rattle.record_batch.specs.Fact.{Fact, fact_of}
 use Rattle.rm_protocol.specs.Terms.{Terms}
 use Rattle.node_laws.specs.OwnTerms.{AreOwn}

@@ -4,7 +4,7 @@ use Rattle.record_batch.specs.Fact.{Fact}
 use Rattle.sequence_table.specs.Fits.{is_outgoing_side}
 use Rattle.sequence_table.specs.Makers.{maker}
 use Rattle.sequence_table.specs.Sources.{accepted_count}
-use Rattle.rm_journal.specs.JournalState.{end_of}
+use Rattle.rm_disk.specs.Journal.JournalState.{end_of}
 use Rattle.rm_node.specs.Asked.{Send}
 use Rattle.rm_node.specs.Ends.{sent_end}
 use Rattle.rm_node.proofs.ComesLemmas.{send-done, send-side}
