@@ -21,7 +21,7 @@ use Rattle.rm_protocol.specs.Calls.{messages_at, nack_by, nack_in, nack_missing,
 use Rattle.rm_protocol.specs.Calls.{tick_with, ticked}
 use Rattle.rm_protocol.specs.Terms.{Terms}
 use Rattle.rm_protocol.specs.Verdict.{has_room}
-use Rattle.rm_timers.specs.declared.timers.Key.{Key}
+use Rattle.timers.specs.declared.slots.timers.Key.{Key}
 use Rattle.tables_ahead.specs.Known.{KnownRecords, all_records, may_go_ahead}
 use Rattle.node_calls.specs.Comes.{fitting}
 use Rattle.node_calls.specs.Records.{IsEnding}

@@ -32,7 +32,7 @@ use record_batch::OwnOffer;
 use rm_base::{Blob, Ident, Memory};
 use rm_message::Message;
 use rm_sides::source::OutPhase;
-use rm_timers::Key;
+use timers::slots::Key;
 use std::alloc::Global;
 use tables_ahead::Known;
 use wsa_headers::Epr;

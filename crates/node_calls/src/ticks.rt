@@ -20,7 +20,7 @@ use node_tables::Tables;
 use record_batch::Record;
 use rm_base::{Cause, Memory};
 use rm_sides::destination::is_past;
-use rm_timers::Key;
+use timers::slots::Key;
 use std::alloc::Global;
 use tables_ahead::Known;
 

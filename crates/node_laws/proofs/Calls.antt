@@ -43,8 +43,8 @@ use Rattle.sequence_table.specs.Destinations.{cursor, has_end, inbox, is_over, d
 use Rattle.node_laws.proofs.Lists.{All-append}
 use Rattle.rm_protocol.specs.Calls.{adds_and_moves, message_at, messages_at, ticked}
 use Rattle.rm_protocol.specs.Waiting.{Moves, no_moves}
-use Rattle.rm_timers.specs.declared.timers.Key.{Key}
-use Rattle.key_timers.specs.Waits.{Wait, first_due}
+use Rattle.timers.specs.declared.slots.timers.Key.{Key}
+use Rattle.timers.specs.Keys.Waits.{Wait, first_due}
 use Rattle.sequence_table.specs.Find.{find_incoming, acks_to, peer}
 use Rattle.rm_protocol.specs.Calls.{Answer, Cause, NoSequence, WrongSide, NotOpen, PayloadTooLong, BadPayload}
 use Rattle.rm_protocol.specs.Calls.{WindowFull, NodeFull, missing_of}

@@ -14,7 +14,7 @@ use Rattle.message_writer.specs.Rules.{KeepsRules}
 use Rattle.record_batch.specs.Fact.{Fact}
 use Rattle.sequence_table.specs.Fits.{all_fit}
 use Rattle.rm_protocol.specs.Calls.{Answer, create, send, close, end, tick, ask_ack, nack_missing, receive, consume}
-use Rattle.key_timers.specs.Waits.{first_due}
+use Rattle.timers.specs.Keys.Waits.{first_due}
 use Rattle.rm_protocol.specs.Next.{HasRanges, IsMessageNumber, IsNumberRange, IsReadable, AddsNext, EachMayComeNext}
 use Rattle.rm_protocol.specs.Polls.{poll}
 use Rattle.rm_protocol.specs.Rows.{ranges_of}

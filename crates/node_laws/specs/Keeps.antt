@@ -4,8 +4,8 @@ use Rattle.std.specs.List.{AllByRecursion}
 use Rattle.rm_base.specs.Limits as limits
 use Rattle.rm_base.specs.Text.{IsText}
 use Rattle.rm_base.specs.declared.message.Behaviour.{Behaviour}
-use Rattle.key_timers.specs.Waits.{Wait}
-use Rattle.make_connection.specs.Waiting.{Waiting}
+use Rattle.timers.specs.Keys.Waits.{Wait}
+use Rattle.timers.specs.Pending.Waiting.{Waiting}
 use Rattle.rm_message.specs.declared.message.Message.{Message}
 use Rattle.rm_message.specs.declared.refusal.Refusal.{Refusal}
 use Rattle.soap_envelope.specs.Soap.{soap_space}

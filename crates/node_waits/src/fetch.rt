@@ -14,7 +14,7 @@ ghost use Rattle.rm_protocol.specs.Said.{with_blocks as with_blocks_of};
 ghost use Rattle.node_waits.specs.Fetched.{fetched_seen, without_back};
 
 use crate::copy::copy_message;
-use make_connection::Pending;
+use timers::pending::Pending;
 use node_messages::{is_anonymous, with_blocks};
 use rm_base::{Memory, Uri, copy_optional_uri};
 use rm_elements::{Lifecycle, copy_block};

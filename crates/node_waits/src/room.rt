@@ -1,12 +1,12 @@
 //! What is said to polled addresses is kept.
 ghost use Rattle.std.specs.Prelude.{◌≡◌, ◌++◌, ◌∷◌, [], true, IfOk, OnOk};
-ghost use Rattle.make_connection.specs.Waiting.{is_ready, put as put_of, used};
+ghost use Rattle.timers.specs.Pending.Waiting.{is_ready, put as put_of, used};
 ghost use Rattle.rm_protocol.specs.Polls.{waits_there as waits_at, puts_all, waiting_of};
 ghost use Rattle.rm_protocol.specs.Addresses.{place_of as place_for};
 ghost use Rattle.node_waits.specs.Held.{AreHeld, addresses_of, messages_of};
 
 use crate::copy::copy_message;
-use make_connection::Pending;
+use timers::pending::Pending;
 use node_messages::{Place, place_of};
 use rm_base::{Memory, Uri};
 use rm_message::Message;

@@ -10,7 +10,7 @@ use node_tables::Tables;
 use rm_base::Memory;
 use rm_elements::{AckBlock, AckKind};
 use rm_message::Message;
-use rm_timers::Key;
+use timers::slots::Key;
 use std::alloc::Global;
 
 // The numbers that a block says are missing.

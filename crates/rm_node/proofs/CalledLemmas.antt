@@ -7,11 +7,11 @@ use Rattle.node_laws.specs.Sizes.Room.{HasRoom}
 use Rattle.node_laws.specs.Sizes.Typed.{IsTyped}
 use Rattle.record_batch.specs.Fact.{Fact}
 use Rattle.rm_disk.specs.Call.{Call}
-use Rattle.rm_timers.specs.declared.timers.Key.{Key}
+use Rattle.timers.specs.declared.slots.timers.Key.{Key}
 use Rattle.rm_disk.specs.ImageLemmas.{only_from}
 use Rattle.rm_disk.specs.Journal.JournalState.{end_of}
 use Rattle.sequence_table.specs.Words.{Text}
-use Rattle.make_connection.specs.Waiting.{Pended, Waiting}
+use Rattle.timers.specs.Pending.Waiting.{Pended, Waiting}
 use Rattle.rm_message.specs.declared.message.Message.{Message}
 use Rattle.rm_protocol.specs.Calls.{Answer, Outcome}
 use Rattle.node_laws.specs.Records.{IsKept}

@@ -1,7 +1,7 @@
 -- What a message fetches, as the protocol has it.
 use Rattle.std.proofs.Common.{◌≡◌, ◌∙◌, Option, refl, ap}
 use Rattle.std.specs.Prelude.{Ok}
-use Rattle.make_connection.specs.Waiting.{Waiting}
+use Rattle.timers.specs.Pending.Waiting.{Waiting}
 use Rattle.rm_message.specs.declared.message.Message.{Message}
 use Rattle.sequence_table.specs.Words.{Text}
 use Rattle.rm_protocol.specs.Calls.{Answer, Outcome, Done, Judged, Refused}

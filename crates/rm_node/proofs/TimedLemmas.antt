@@ -6,13 +6,13 @@ use Rattle.std.specs.List.{AllByRecursion, flat_map}
 use Rattle.std.specs.Option.{option_to_list}
 use Rattle.std.proofs.lemmas.Bool.{false≢true}
 use Rattle.rm_disk.specs.Journal.JournalState.{end_of}
-use Rattle.rm_timers.specs.declared.timers.Key.{Key}
-use Rattle.rm_timers.specs.Waits.{Entry}
-use Rattle.key_timers.specs.declared.cells.Cell.{Cell}
-use Rattle.key_timers.specs.Keyed.{Keyed, Once, Rises, StandsFor, Steps as Moves, cell_of, is_before, slot_at}
-use Rattle.key_timers.specs.Keyed.{wait_of}
-use Rattle.key_timers.specs.KeyLemmas.{before-apart, same_key-is, same_key-refl}
-use Rattle.key_timers.specs.Waits.{Wait, begin_all, fresh, has_key, keys_of, same_key, send_all, urge_all}
+use Rattle.timers.specs.declared.slots.timers.Key.{Key}
+use Rattle.timers.specs.Slots.Waits.{Entry}
+use Rattle.timers.specs.declared.keys.cells.Cell.{Cell}
+use Rattle.timers.specs.Keys.Keyed.{Keyed, Once, Rises, StandsFor, Steps as Moves, cell_of, is_before, slot_at}
+use Rattle.timers.specs.Keys.Keyed.{wait_of}
+use Rattle.timers.specs.Keys.KeyLemmas.{before-apart, same_key-is, same_key-refl}
+use Rattle.timers.specs.Keys.Waits.{Wait, begin_all, fresh, has_key, keys_of, same_key, send_all, urge_all}
 use Rattle.node_waits.specs.Keys.Settled.{AreTouched, OneMoreHasRoom, OnlyTheTouched, cells_all, changed, is_kept}
 use Rattle.node_waits.specs.Keys.Settled.{settled_all, settled_cells, touched_by}
 use Rattle.node_waits.specs.declared.keys.touched.Touched.{Touched}
@@ -21,7 +21,7 @@ use Rattle.rm_protocol.specs.Exact.{AreExactly, IsExactAtFirst, StaysExact}
 use Rattle.rm_protocol.specs.Calls.{Answer}
 use Rattle.record_batch.specs.Fact.{Fact}
 use Rattle.sequence_table.specs.Fits.{all_fit}
-use Rattle.make_connection.specs.Waiting.{Waiting}
+use Rattle.timers.specs.Pending.Waiting.{Waiting}
 use Rattle.rm_message.specs.declared.message.Message.{Message}
 use Rattle.rm_protocol.specs.Polls.{polled_after}
 use Rattle.rm_protocol.specs.WaitLemmas.{all-wait}

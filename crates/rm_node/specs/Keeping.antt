@@ -2,10 +2,10 @@
 use Rattle.std.specs.Prelude.{◌≡◌, ℕ, max, Bool, true, false, List}
 use Rattle.rm_base.specs.declared.message.Behaviour.{Behaviour}
 use Rattle.rm_base.specs.declared.message.Behaviour.TheVariants.{FollowingFirstGap}
-use Rattle.key_timers.specs.Keyed.{StandsFor}
-use Rattle.key_timers.specs.Waits.{Wait}
+use Rattle.timers.specs.Keys.Keyed.{StandsFor}
+use Rattle.timers.specs.Keys.Waits.{Wait}
 use Rattle.record_batch.specs.Fact.{Fact}
-use Rattle.make_connection.specs.Waiting.{Waiting, nothing_waits}
+use Rattle.timers.specs.Pending.Waiting.{Waiting, nothing_waits}
 use Rattle.rm_message.specs.declared.message.Message.{Message}
 use Rattle.rm_protocol.specs.Calls.{Answer}
 use Rattle.rm_protocol.specs.Polls.{polled_after}

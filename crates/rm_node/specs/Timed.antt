@@ -3,10 +3,10 @@ use Rattle.std.specs.Prelude.{◌≡◌, ◌≤◌, ℕ, ◌+◌, Bool, true, fa
 use Rattle.std.specs.Prelude.{IfSome}
 use Rattle.std.specs.Option.{option_to_list}
 use Rattle.rm_base.specs.Limits as limits
-use Rattle.rm_timers.specs.declared.timers.Key.{Key}
-use Rattle.key_timers.specs.declared.cells.Cell.{Cell}
-use Rattle.key_timers.specs.Keyed.{Keyed, StandsFor, slot_at}
-use Rattle.key_timers.specs.Waits.{Wait}
+use Rattle.timers.specs.declared.slots.timers.Key.{Key}
+use Rattle.timers.specs.declared.keys.cells.Cell.{Cell}
+use Rattle.timers.specs.Keys.Keyed.{Keyed, StandsFor, slot_at}
+use Rattle.timers.specs.Keys.Waits.{Wait}
 use Rattle.record_batch.specs.Fact.{Fact}
 use Rattle.sequence_table.specs.Makers.{Maker, Outgoing, Taken, maker, makers}
 use Rattle.sequence_table.specs.Sources.{accepted_count}

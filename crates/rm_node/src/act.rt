@@ -20,7 +20,7 @@ use node_tables::Tables;
 use node_waits::keys::laws::{one_more_has_room, only_the_touched_are_looked_at};
 use rm_disk::Disk;
 use rm_protocol::laws::what_waits_stays_exact;
-use rm_timers::Key;
+use timers::slots::Key;
 
 impl Node {
     /// Refuses a call of a node that is down.

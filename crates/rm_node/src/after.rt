@@ -14,7 +14,7 @@ ghost use Rattle.node_store.specs.Has.{Holds};
 ghost use Rattle.node_store.specs.Stored.{stored_after};
 ghost use Rattle.node_store.specs.declared.error.StoreError.TheVariants.{Memory as WantsMemory, Disk as DiskFails};
 ghost use Rattle.node_laws.specs.Answers.Answers.{moves_seen};
-ghost use Rattle.key_timers.specs.Keyed.{Rises, Steps, slot_at};
+ghost use Rattle.timers.specs.Keys.Keyed.{Rises, Steps, slot_at};
 ghost use Rattle.node_waits.specs.Keys.Settled.{cells_all, changed, touched_by};
 ghost use Rattle.node_waits.specs.Fetched.{fetched_seen};
 ghost use Rattle.node_waits.specs.Held.{AreHeld, addresses_of, messages_of};
@@ -24,7 +24,7 @@ use crate::fetch::Answered;
 use crate::kept::Kept;
 use crate::wait::wait_on;
 use node_laws::answers::{Answer, Moves};
-use make_connection::Pending;
+use timers::pending::Pending;
 use node_store::{Store, StoreError};
 use node_tables::Tables;
 use node_waits::keys::{Touched, named};
@@ -32,7 +32,7 @@ use node_waits::{Fetched, Held, keep, make_room, take, to_wait};
 use rm_base::Memory;
 use rm_disk::Disk;
 use rm_message::Message;
-use rm_timers::Key;
+use timers::slots::Key;
 use std::alloc::Global;
 
 /// What is made before the records of an answer are written: the keys that they may end, and the messages that are to

@@ -10,7 +10,7 @@ ghost use Rattle.rm_node.specs.Timed.{begun_with, of_outgoing};
 use crate::call::Call;
 use node_tables::Tables;
 use node_tables::laws::an_outgoing_sequence_is_as_recorded;
-use rm_timers::Key;
+use timers::slots::Key;
 
 /// The key of the request of the sequence that is made next.
 fn next_request(tables: &Tables) -> Key

@@ -6,7 +6,7 @@ ghost use Rattle.rm_protocol.specs.Polls.{awaited, fetches};
 ghost use Rattle.rm_node.specs.Fetching.{if_taken, whole};
 
 use node_laws::answers::{Answer, Outcome};
-use make_connection::Pending;
+use timers::pending::Pending;
 use node_waits::{Fetched, Polled, polls};
 use rm_base::{Memory, Uri};
 use rm_message::Message;

@@ -1,11 +1,11 @@
 //! What a node keeps that is not on its disk.
 ghost use Rattle.std.specs.Prelude.{◌≡◌, [], IfOk};
 ghost use Rattle.rm_base.specs.declared.message.Behaviour.TheVariants.{FollowingFirstGap as FirstGap};
-ghost use Rattle.key_timers.specs.Keyed.{StandsFor};
-ghost use Rattle.make_connection.specs.Waiting.{nothing_waits};
+ghost use Rattle.timers.specs.Keys.Keyed.{StandsFor};
+ghost use Rattle.timers.specs.Pending.Waiting.{nothing_waits};
 
-use key_timers::KeyTimers;
-use make_connection::Pending;
+use timers::keys::KeyTimers;
+use timers::pending::Pending;
 use rm_base::{Behaviour, Memory};
 use rm_message::Message;
 use std::alloc::Global;

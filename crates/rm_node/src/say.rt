@@ -28,7 +28,7 @@ use node_waits::keys::due_keys;
 use read_laws::laws::{a_refusal_may_be_answered, what_is_read_may_be_written};
 use rm_base::Memory;
 use rm_protocol::laws::{only_what_was_heard_is_recorded, what_begins_waits};
-use rm_timers::Key;
+use timers::slots::Key;
 use std::alloc::Global;
 
 /// What a node says to a call: the answer, the key that begins to wait unless it is a refusal, and what leaves the node

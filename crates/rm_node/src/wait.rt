@@ -2,14 +2,14 @@
 ghost use Rattle.std.specs.Prelude.{◌≡◌, ◌<◌, ◌≤◌, length, max, IfSome, None};
 ghost use Rattle.rm_base.specs.Limits.{most_keys, now_max};
 ghost use Rattle.node_laws.specs.Answers.Answers.{moves_seen};
-ghost use Rattle.key_timers.specs.Keyed.{Rises, Steps, slot_at};
+ghost use Rattle.timers.specs.Keys.Keyed.{Rises, Steps, slot_at};
 ghost use Rattle.node_waits.specs.Keys.Settled.{cells_all, changed};
 
 use node_laws::answers::Moves;
-use key_timers::KeyTimers;
+use timers::keys::KeyTimers;
 use node_tables::Tables;
 use node_waits::keys::{Touched, after_call};
-use rm_timers::Key;
+use timers::slots::Key;
 
 /// The time is at least what an answer tells, and the keys move, once its records, which may end these keys, are in the
 /// tables. It takes no memory.

@@ -48,8 +48,8 @@ use Rattle.rm_protocol.specs.Addresses.{is_anonymous}
 use Rattle.wsa_headers.specs.declared.endpoint.Epr.{Epr}
 use Rattle.rm_elements.specs.declared.header.AckBlock.{AckBlock}
 use Rattle.rm_elements.specs.declared.header.AckKind.TheVariants as kind
-use Rattle.rm_timers.specs.declared.timers.Key.{Key}
-use Rattle.key_timers.specs.Waits.{Wait, first_due}
+use Rattle.timers.specs.declared.slots.timers.Key.{Key}
+use Rattle.timers.specs.Keys.Waits.{Wait, first_due}
 use Rattle.rm_protocol.specs.Heard.{Heard}
 use Rattle.rm_protocol.specs.Messages.{data_at, request_at, ack_message}
 use Rattle.rm_protocol.specs.Node.{fetched_message}

@@ -9,11 +9,11 @@ use Rattle.std.proofs.lemmas.Bool.Decides.{nat_tests}
 use Rattle.rm_sides.specs.declared.ranges.range.Range.{Range}
 use Rattle.rm_sides.specs.Ranges.Changes.{united, with_range}
 use Rattle.rm_sides.specs.Ranges.Ranges.{in_range, in_ranges}
-use Rattle.rm_timers.specs.declared.timers.Key.{Key}
-use Rattle.key_timers.specs.Waits.{Wait, same_key, has_key, keys_of, at_key, without, moved_last, begun, urged, sent}
-use Rattle.key_timers.specs.Waits.{begin_all}
-use Rattle.key_timers.specs.KeyLemmas.{same_key-is, same_key-refl, same_key-sym}
-use Rattle.key_timers.specs.Waits.{urge_all, send_all, emitted, put_into, fresh}
+use Rattle.timers.specs.declared.slots.timers.Key.{Key}
+use Rattle.timers.specs.Keys.Waits.{Wait, same_key, has_key, keys_of, at_key, without, moved_last, begun, urged, sent}
+use Rattle.timers.specs.Keys.Waits.{begin_all}
+use Rattle.timers.specs.Keys.KeyLemmas.{same_key-is, same_key-refl, same_key-sym}
+use Rattle.timers.specs.Keys.Waits.{urge_all, send_all, emitted, put_into, fresh}
 use Rattle.record_batch.specs.Fact.{Fact}
 use Rattle.record_snapshot.specs.AckedLemmas.{acked-within}
 use Rattle.record_snapshot.specs.Same.{SaysTheSame, SnapshotSaysTheSame}

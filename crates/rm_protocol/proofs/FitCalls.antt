@@ -58,7 +58,7 @@ use Rattle.rm_protocol.specs.Calls.{wanted, create, is_open, send_out, on_outgoi
 use Rattle.rm_protocol.specs.Calls.{close_by, close, may_end, end_out, end, expired_from, judged, receive}
 use Rattle.rm_protocol.specs.Calls.{final_ack, made_by, ticked, tick_with, ask_to, ask_out, ask_ack, on_incoming}
 use Rattle.rm_protocol.specs.Calls.{nack_in, nack_missing, consume, consume_in, cursor_to, PastInbox}
-use Rattle.rm_timers.specs.declared.timers.Key.{Key}
+use Rattle.timers.specs.declared.slots.timers.Key.{Key}
 use Rattle.rm_protocol.specs.Detail.{found_by, first_found, ident_of, named_in}
 use Rattle.rm_protocol.specs.Messages.{data_at, request_at}
 use Rattle.rm_protocol.specs.Next.{HasRanges, IsMessageNumber, IsNumberRange, HasNumbers, IsReadable, AddsNext}

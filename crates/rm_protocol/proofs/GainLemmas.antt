@@ -18,7 +18,7 @@ use Rattle.sequence_table.specs.Sources.{accepted_count, all_unacked, phase, una
 use Rattle.sequence_table.specs.Destinations.{cursor, deadline_of, has_end, inbox, is_over}
 use Rattle.sequence_table.specs.Find.{peer}
 use Rattle.sequence_table.specs.Words.{Text}
-use Rattle.key_timers.specs.Waits.{first_due}
+use Rattle.timers.specs.Keys.Waits.{first_due}
 use Rattle.rm_protocol.specs.Calls.{Answer, Cause, StoreFull, NotOpen, PayloadTooLong}
 use Rattle.rm_protocol.specs.Calls.{BadPayload, WindowFull, NodeFull, Rollover, TooManySequences, PastInbox, Wish}
 use Rattle.rm_protocol.specs.Calls.{adds, ask_ack}
@@ -34,7 +34,7 @@ use Rattle.rm_protocol.specs.Pair.{Act, Creates, Grants, Sends, Ticks, Closes, E
 use Rattle.rm_protocol.specs.Pair.{Consumes, Receives, Compacts, Arms, Crashes, Brings, Gained, IsParked, IsQuiet}
 use Rattle.rm_protocol.specs.Pair.{AreBrought}
 use Rattle.rm_protocol.specs.Pair.{acted}
-use Rattle.make_connection.specs.Waiting.{Waiting}
+use Rattle.timers.specs.Pending.Waiting.{Waiting}
 use Rattle.rm_protocol.specs.Addresses.{place_of}
 use Rattle.rm_protocol.specs.Calls.{Fetched, final_ack, made_by, nack_by}
 use Rattle.rm_protocol.specs.Messages.{data_at, request_at}

@@ -21,7 +21,7 @@ use Rattle.rm_message.specs.declared.refusal.Refusal.{Refusal}
 use Rattle.rm_protocol.specs.Calls.{Answer, create, send, close, end, tick, ask_ack, nack_missing, receive}
 use Rattle.rm_protocol.specs.Calls.{consume}
 use Rattle.rm_protocol.specs.Next.{AddsNext, IsReadable}
-use Rattle.key_timers.specs.Waits.{first_due}
+use Rattle.timers.specs.Keys.Waits.{first_due}
 use Rattle.sequence_table.specs.Fits.{all_fit}
 use Rattle.rm_protocol.specs.Compact.{compacted, compacted_by, fresh_start, may_compact, rewritten, stops_compacting}
 use Rattle.rm_protocol.specs.Compact.{with_list}
@@ -34,7 +34,7 @@ use Rattle.rm_protocol.specs.Waiting.{mounted_waits}
 use Rattle.rm_protocol.specs.Said.{sent_of, leaves}
 use Rattle.rm_protocol.specs.Addresses.{place_of}
 use Rattle.rm_protocol.specs.Sound.{AllowsState, AreSaid, IsBounded, SaysPacket, IsSoundNode, IsSound}
-use Rattle.make_connection.specs.Waiting.{Waiting, nothing_waits}
+use Rattle.timers.specs.Pending.Waiting.{Waiting, nothing_waits}
 use Rattle.rm_protocol.specs.Polls.{poll, polled_after}
 use Rattle.rm_protocol.proofs.FetchedLemmas.{AreSaid-grows, polled_after-said, poll-right, polls-right}
 use Rattle.rm_protocol.specs.Terms.{Terms, AreTerms}

@@ -29,7 +29,7 @@ use Rattle.rm_protocol.specs.Calls.{Answer, Cause, Outcome, Done, refusal, adds,
 use Rattle.rm_protocol.specs.Calls.{wanted, is_open, send_out, on_outgoing, close_out, close_in, close_by, may_end}
 use Rattle.rm_protocol.specs.Calls.{end_out, expired_from, judged, receive}
 use Rattle.rm_protocol.specs.Waiting.{no_moves}
-use Rattle.key_timers.specs.Waits.{Wait, first_due}
+use Rattle.timers.specs.Keys.Waits.{Wait, first_due}
 use Rattle.rm_protocol.specs.Heard.{Heard}
 use Rattle.rm_protocol.specs.Compact.{compacted, compacted_by, may_compact, rewritten, stops_compacting, with_list}
 use Rattle.rm_protocol.specs.Node.{Node, State, Up, Writing, Compacting, records, node_end}

@@ -6,7 +6,7 @@ use Rattle.std.specs.Prelude.{IfSome, Ok, Err}
 use Rattle.std.specs.List.{AllByRecursion, flat_map}
 use Rattle.std.proofs.lemmas.Bool.{and_parts, eqb-true}
 use Rattle.std.proofs.lemmas.List.Concat.{flat_map-append}
-use Rattle.make_connection.specs.Waiting.{Queue, Waiting}
+use Rattle.timers.specs.Pending.Waiting.{Queue, Waiting}
 use Rattle.rm_base.specs.Numbered.{numbered}
 use Rattle.rm_base.specs.NumberSet.{has_number}
 use Rattle.rm_elements.specs.declared.header.SeqHeader.{SeqHeader}

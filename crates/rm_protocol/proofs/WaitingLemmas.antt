@@ -14,9 +14,9 @@ use Rattle.rm_sides.specs.Ranges.Changes.{with_range, united}
 use Rattle.rm_sides.specs.declared.source.phase.OutPhase.{OutPhase}
 use Rattle.rm_sides.specs.declared.source.phase.OutPhase.TheVariants as out
 use Rattle.rm_sides.specs.Source.Outgoing.{Sending, accepted_count as count_of, first_run}
-use Rattle.rm_timers.specs.declared.timers.Key.{Key}
-use Rattle.key_timers.specs.Waits.{same_key, has_key}
-use Rattle.key_timers.specs.KeyLemmas.{same_key-is}
+use Rattle.timers.specs.declared.slots.timers.Key.{Key}
+use Rattle.timers.specs.Keys.Waits.{same_key, has_key}
+use Rattle.timers.specs.Keys.KeyLemmas.{same_key-is}
 use Rattle.record_batch.specs.Fact.{Fact, Creating, Created, Granted, Accepted, Acked, Closing}
 use Rattle.record_batch.specs.Fact.{ClosedOut, Dropped, Ending, EndedOut, Failed}
 use Rattle.rm_base.specs.Numbered.{numbered}

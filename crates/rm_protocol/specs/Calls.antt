@@ -36,8 +36,8 @@ use Rattle.rm_protocol.specs.Said.{said, ack_to, own_messages}
 use Rattle.rm_protocol.specs.Terms.{Terms}
 use Rattle.rm_protocol.specs.Verdict.{verdict, target, is_invalid, has_room}
 use Rattle.rm_protocol.specs.Waiting.{Moves, no_moves, nacked, numbers_from}
-use Rattle.rm_timers.specs.declared.timers.Key.{Key}
-use Rattle.key_timers.specs.Waits.{Wait, first_due}
+use Rattle.timers.specs.declared.slots.timers.Key.{Key}
+use Rattle.timers.specs.Keys.Waits.{Wait, first_due}
 use Rattle.rm_sides.specs.Ranges.Ranges.{greatest_of}
 use Rattle.wsa_headers.specs.declared.endpoint.Epr.{Epr}
 use Rattle.rm_elements.specs.declared.header.AckKind.TheVariants as kind

@@ -4,8 +4,8 @@ use Rattle.sequence_table.specs.Told.{names, sending}
 use Rattle.std.specs.Prelude.{◌≡◌, ◌≢◌, ◌⊎◌, ℕ, ◌≤◌, true, List, [], ◌∷◌, ◌++◌}
 use Rattle.rm_sides.specs.Ranges.Ranges.{in_ranges}
 use Rattle.sequence_table.specs.Sources.{accepted_count}
-use Rattle.rm_timers.specs.declared.timers.Key.{Key}
-use Rattle.key_timers.specs.Waits.{Wait, has_key, keys_of}
+use Rattle.timers.specs.declared.slots.timers.Key.{Key}
+use Rattle.timers.specs.Keys.Waits.{Wait, has_key, keys_of}
 use Rattle.record_batch.specs.Fact.{Fact}
 use Rattle.record_snapshot.specs.Same.{HaveProper}
 use Rattle.record_snapshot.specs.Snapshot.{snapshot}

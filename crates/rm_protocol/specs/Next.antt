@@ -13,7 +13,7 @@ use Rattle.sequence_table.specs.Fits.{all_fit}
 use Rattle.sequence_table.specs.Words.{Text}
 use Rattle.rm_protocol.specs.Calls.{Wish, create, send, close, end, tick_with, ask_ack, nack_missing, receive, consume}
 use Rattle.rm_protocol.specs.Rows.{ranges_of}
-use Rattle.rm_timers.specs.declared.timers.Key.{Key}
+use Rattle.timers.specs.declared.slots.timers.Key.{Key}
 use Rattle.rm_protocol.specs.Terms.{Terms, EndsLater}
 
 -- a range of message numbers, which are from 1 to 9223372036854775807: WS-ReliableMessaging 1.2, section 3.9

@@ -6,12 +6,12 @@ use Rattle.rm_base.specs.declared.message.Behaviour.{Behaviour}
 use Rattle.rm_message.specs.declared.message.Message.{Message}
 use Rattle.record_batch.specs.Fact.{Fact}
 use Rattle.record_snapshot.specs.Snapshot.{snapshot}
-use Rattle.make_connection.specs.Waiting.{Waiting, nothing_waits}
+use Rattle.timers.specs.Pending.Waiting.{Waiting, nothing_waits}
 use Rattle.rm_protocol.specs.Calls.{Answer, Outcome, Fetched}
 use Rattle.rm_protocol.specs.Polls.{polled_after}
 use Rattle.rm_protocol.specs.Terms.{Terms}
 use Rattle.rm_protocol.specs.Waiting.{mounted_waits, waits_after}
-use Rattle.key_timers.specs.Waits.{Wait}
+use Rattle.timers.specs.Keys.Waits.{Wait}
 
 -- a node is up, or the call that failed was writing a batch, or the list of entries anew, at this place
 pub data State : Type 0 where

@@ -6,8 +6,8 @@ use Rattle.std.specs.Prelude.{option_map, drop}
 use Rattle.rm_base.specs.Count.{raised_by}
 use Rattle.std.specs.List.{AllByRecursion, filter, flat_map}
 use Rattle.std.specs.Str.{bytes_eq}
-use Rattle.make_connection.specs.Waiting.{Queue, Waiting, packets_for, may_wait, with_packet, put, rest_of}
-use Rattle.make_connection.specs.Waiting.{without_first, first_in}
+use Rattle.timers.specs.Pending.Waiting.{Queue, Waiting, packets_for, may_wait, with_packet, put, rest_of}
+use Rattle.timers.specs.Pending.Waiting.{without_first, first_in}
 use Rattle.rm_elements.specs.declared.header.AckBlock.{AckBlock}
 use Rattle.rm_message.specs.declared.message.Message.{Message}
 use Rattle.rm_message.specs.declared.refusal.Refusal.{Refusal}

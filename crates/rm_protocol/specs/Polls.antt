@@ -2,7 +2,7 @@
 -- WS-MakeConnection 1.1, section 3.
 use Rattle.std.specs.Prelude.{not, Bool, true, false, List, [], ◌∷◌, filter, flat_map, Option, Some, None}
 use Rattle.std.specs.Prelude.{Result, Ok, option_map}
-use Rattle.make_connection.specs.Waiting.{Waiting, oldest, polled, put}
+use Rattle.timers.specs.Pending.Waiting.{Waiting, oldest, polled, put}
 use Rattle.rm_elements.specs.declared.header.AckBlock.{AckBlock}
 use Rattle.rm_elements.specs.declared.lifecycle.Lifecycle.TheVariants as life
 use Rattle.rm_message.specs.Actions.{make_connection}

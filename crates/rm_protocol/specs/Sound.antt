@@ -31,7 +31,7 @@ use Rattle.sequence_table.specs.Sources.{accepted, marks, out_ident}
 use Rattle.sequence_table.specs.Destinations.{held, received}
 use Rattle.sequence_table.specs.Fits.{all_fit}
 use Rattle.sequence_table.specs.Find.{IsOutgoing, IsIncoming}
-use Rattle.make_connection.specs.Waiting.{Waiting}
+use Rattle.timers.specs.Pending.Waiting.{Waiting}
 use Rattle.rm_protocol.specs.PollLemmas.{AllWaiting}
 use Rattle.rm_protocol.specs.Node.{Node, State, Up, Writing, Compacting, records, end_of, fresh_entries, node_end}
 use Rattle.rm_protocol.specs.Rows.{ranges_of, last_of}

@@ -1,9 +1,9 @@
 -- A lemma on what waits, which the crates above use: where exactly those wait that do so by the records, each does.
 use Rattle.std.proofs.Common.{◌≡◌, ◌∙◌, ◌||◌, Bool, true, false, List, [], ◌∷◌, refl, sym, ap}
 use Rattle.std.specs.List.{AllByRecursion}
-use Rattle.rm_timers.specs.declared.timers.Key.{Key}
-use Rattle.key_timers.specs.KeyLemmas.{same_key-refl}
-use Rattle.key_timers.specs.Waits.{Wait, has_key, keys_of, same_key}
+use Rattle.timers.specs.declared.slots.timers.Key.{Key}
+use Rattle.timers.specs.Keys.KeyLemmas.{same_key-refl}
+use Rattle.timers.specs.Keys.Waits.{Wait, has_key, keys_of, same_key}
 use Rattle.record_batch.specs.Fact.{Fact}
 use Rattle.rm_protocol.specs.Exact.{AreExactly}
 use Rattle.rm_protocol.specs.Waiting.{is_waiting}

@@ -5,8 +5,8 @@ use Rattle.std.specs.Prelude.{◌∷◌, ◌++◌, filter, length, map, Option, 
 use Rattle.rm_sides.specs.Ranges.Ranges.{in_ranges}
 use Rattle.rm_sides.specs.declared.source.phase.OutPhase.{OutPhase}
 use Rattle.rm_sides.specs.declared.source.phase.OutPhase.TheVariants as out
-use Rattle.rm_timers.specs.declared.timers.Key.{Key}
-use Rattle.key_timers.specs.Waits.{Wait, fresh, begin_all, urge_all, send_all}
+use Rattle.timers.specs.declared.slots.timers.Key.{Key}
+use Rattle.timers.specs.Keys.Waits.{Wait, fresh, begin_all, urge_all, send_all}
 use Rattle.rm_elements.specs.declared.header.AckBlock.{AckBlock}
 use Rattle.rm_elements.specs.declared.header.AckKind.{AckKind}
 use Rattle.rm_elements.specs.declared.header.AckKind.TheVariants as kind

@@ -12,7 +12,7 @@ use Rattle.record_batch.specs.Fact.{Made}
 use Rattle.sequence_table.specs.Words.{Text}
 use Rattle.rm_protocol.specs.Calls.{Answer, Wish, create, send, close, end, tick, receive, ask_ack, nack_missing}
 use Rattle.rm_protocol.specs.Calls.{consume}
-use Rattle.make_connection.specs.Waiting.{nothing_waits}
+use Rattle.timers.specs.Pending.Waiting.{nothing_waits}
 use Rattle.rm_protocol.specs.Compact.{compacted}
 use Rattle.rm_protocol.specs.Node.{Node, State, Up, records, node_end, armed, mounted, after, said_after, fetched_after}
 use Rattle.rm_protocol.specs.Polls.{poll, polls}

@@ -2,7 +2,7 @@
 use Rattle.std.proofs.Common.{◌≡◌, ℕ, Bool, true, false, cond, max, List, Option, Some, None, refl, []}
 use Rattle.std.specs.Prelude.{Result, Ok, Err}
 use Rattle.rm_base.specs.declared.message.Behaviour.{Behaviour}
-use Rattle.key_timers.specs.Waits.{Wait, first_due}
+use Rattle.timers.specs.Keys.Waits.{Wait, first_due}
 use Rattle.rm_message.specs.declared.message.Message.{Message}
 use Rattle.rm_message.specs.declared.refusal.FaultKind.{FaultKind}
 use Rattle.rm_message.specs.declared.refusal.Refusal.{Refusal}

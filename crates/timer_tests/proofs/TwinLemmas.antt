@@ -5,10 +5,10 @@ use Rattle.std.specs.Prelude.{All, take, drop}
 use Rattle.std.specs.List.{remove}
 use Rattle.std.proofs.lemmas.Bool.{cases_eq, eq-eqb, ne_eqb}
 use Rattle.std.proofs.lemmas.List.Elements.{All-append, All-take, All-drop, All-weaker, All-push}
-use Rattle.rm_timers.specs.Waits.{Entry, Waiting, StandFor, IsLive, at_slot, without, moved_last, begun}
-use Rattle.rm_timers.specs.Waits.{with_emitted, emitted}
-use Rattle.rm_timers.specs.Laws.{LiveIsWaiting}
-use Rattle.rm_timers.specs.declared.timers.Key.{Key}
+use Rattle.timers.specs.Slots.Waits.{Entry, Waiting, StandFor, IsLive, at_slot, without, moved_last, begun}
+use Rattle.timers.specs.Slots.Waits.{with_emitted, emitted}
+use Rattle.timers.specs.Slots.Laws.{LiveIsWaiting}
+use Rattle.timers.specs.declared.slots.timers.Key.{Key}
 use Rattle.timer_tests.specs.declared.plain.Plain.{Plain}
 use Rattle.timer_tests.specs.Twin.{HasSlot, AreTwins}
 

@@ -1,6 +1,6 @@
 -- Timers beside a plain program, each of whose entries is live in the timers.
 use Rattle.std.specs.Prelude.{◌≡◌, ℕ, ◌⊎◌, List, [], ◌∷◌, All}
-use Rattle.rm_timers.specs.Waits.{Entry, Waiting, StandFor}
+use Rattle.timers.specs.Slots.Waits.{Entry, Waiting, StandFor}
 use Rattle.timer_tests.specs.declared.plain.Plain.{Plain}
 
 -- an entry of the list has the slot

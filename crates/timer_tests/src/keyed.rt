@@ -1,7 +1,7 @@
 //! Timers whose keys are found by key: what is due, in which order, and what a beginning, a wish and an end do to that.
-use key_timers::KeyTimers;
+use timers::keys::KeyTimers;
 use rm_base::Memory;
-use rm_timers::Key;
+use timers::slots::Key;
 use std::alloc::Global;
 use std::test::Fail;
 

@@ -1,7 +1,7 @@
 //! Lists linked by index: the rows, and what a call costs.
 ghost use Rattle.std.specs.Prelude.{◌≡◌, ◌+◌, ◌<◌, ◌≤◌, length, IfOk};
 
-use due_links::{Item, Links, Steps};
+use timers::links::{Item, Links, Steps};
 use rm_base::Memory;
 use std::alloc::Global;
 use std::marker::Brand;

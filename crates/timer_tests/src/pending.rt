@@ -1,5 +1,5 @@
 //! Packets that wait for addresses: the limits, the order, and what room that was made is worth.
-use make_connection::Pending;
+use timers::pending::Pending;
 use rm_base::Uri;
 use std::alloc::Global;
 use std::test::Fail;

@@ -1,7 +1,7 @@
 //! A plain program for timers: one list in the order of the last move.
 ghost use Rattle.std.specs.Prelude.{◌<◌, length, IfSome};
 
-use rm_timers::Key;
+use timers::slots::Key;
 
 /// A key that waits: its slot, its class and when it is due.
 #[derive(Clone, Copy)]

@@ -3,7 +3,7 @@ ghost use Rattle.std.specs.Prelude.{◌≡◌, ◌≢◌, ◌<◌, ◌≤◌, Is
 
 use crate::plain::{Plain, delay, place_of_nth};
 use rm_base::Memory;
-use rm_timers::{Key, Timers, live_is_waiting};
+use timers::slots::{Key, Timers, live_is_waiting};
 use std::alloc::Global;
 use std::marker::Model;
 

@@ -4,7 +4,7 @@ use crate::twin::Twin;
 use rand_core::utils::NextWord;
 use rand_pcg::Pcg32;
 use rm_base::Memory;
-use rm_timers::{Key, Timers};
+use timers::slots::{Key, Timers};
 use std::alloc::Global;
 use std::test::Fail;
 

@@ -6,7 +6,7 @@ ghost use Rattle.node_laws.specs.Answers.Answers.{moves_seen};
 use record_batch::{Record, Via};
 use rm_base::{Behaviour, Lapse, Uri};
 use rm_message::{FaultKind, Message};
-use rm_timers::Key;
+use timers::slots::Key;
 use std::alloc::Global;
 
 /// Why a call is refused, in the order in which it is tested. Of a full window or node: how many messages wait for an

@@ -10,7 +10,7 @@ use Rattle.rm_sides.specs.declared.ranges.range.Range.{Range}
 use Rattle.rm_sides.specs.Ranges.Ranges.{is_between, in_range, in_ranges}
 use Rattle.rm_sides.specs.Ranges.Changes.{with_range, united}
 use Rattle.rm_sides.specs.Source.Outgoing.{Sending}
-use Rattle.rm_timers.specs.declared.timers.Key.{Key}
+use Rattle.timers.specs.declared.slots.timers.Key.{Key}
 use Rattle.record_batch.specs.Fact.{Fact, Acked}
 use Rattle.rm_base.specs.Numbered.{numbered}
 use Rattle.rm_protocol.specs.Exact.{OthersWaitOn}

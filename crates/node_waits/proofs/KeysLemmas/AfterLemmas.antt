@@ -4,10 +4,10 @@ use Rattle.std.proofs.Common.{length, get_or, refl, sym, ap, ap₂, ◌∙◌}
 use Rattle.std.specs.List.{flat_map}
 use Rattle.std.proofs.lemmas.Bool.{false≢true}
 use Rattle.std.proofs.lemmas.List.{drop_more}
-use Rattle.rm_timers.specs.declared.timers.Key.{Key}
-use Rattle.key_timers.specs.declared.cells.Cell.{Cell}
-use Rattle.key_timers.specs.Keyed.{Keyed, StandsFor, Steps}
-use Rattle.key_timers.specs.Waits.{Wait, send_all}
+use Rattle.timers.specs.declared.slots.timers.Key.{Key}
+use Rattle.timers.specs.declared.keys.cells.Cell.{Cell}
+use Rattle.timers.specs.Keys.Keyed.{Keyed, StandsFor, Steps}
+use Rattle.timers.specs.Keys.Waits.{Wait, send_all}
 use Rattle.record_batch.specs.Fact.{Fact}
 use Rattle.rm_protocol.specs.Exact.{OthersWaitOn}
 use Rattle.sequence_table.specs.Fits.{all_fit}

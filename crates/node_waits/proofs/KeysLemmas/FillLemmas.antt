@@ -9,9 +9,9 @@ use Rattle.std.proofs.lemmas.Bool.Decides.{nat_tests}
 use Rattle.std.proofs.lemmas.List.{map-append}
 use Rattle.std.proofs.lemmas.List.Elements.{filter-append}
 use Rattle.rm_base.specs.Numbered.{numbered}
-use Rattle.rm_timers.specs.declared.timers.Key.{Key}
-use Rattle.key_timers.specs.Keyed.{Keyed, StandsFor, keys_in, is_before}
-use Rattle.key_timers.specs.Waits.{Wait, fresh}
+use Rattle.timers.specs.declared.slots.timers.Key.{Key}
+use Rattle.timers.specs.Keys.Keyed.{Keyed, StandsFor, keys_in, is_before}
+use Rattle.timers.specs.Keys.Waits.{Wait, fresh}
 use Rattle.record_batch.specs.Fact.{Fact}
 use Rattle.sequence_table.specs.Makers.{Maker, makers, maker}
 use Rattle.rm_protocol.specs.Waiting.{key, is_waiting, numbers_from, keys_at, keys_from}

@@ -8,7 +8,7 @@ use Rattle.std.proofs.lemmas.Bool.Decides.{nat_tests}
 use Rattle.rm_sides.specs.declared.ranges.range.Range.{Range}
 use Rattle.rm_sides.specs.Ranges.Ranges.{in_range, in_ranges, is_between}
 use Rattle.rm_sides.specs.Ranges.Changes.{united, with_range}
-use Rattle.rm_timers.specs.declared.timers.Key.{Key}
+use Rattle.timers.specs.declared.slots.timers.Key.{Key}
 use Rattle.record_batch.specs.Fact.{Fact, Acked, Dropped}
 use Rattle.rm_sides.specs.Source.Outgoing.{accepted_count as accepted_in, first_run}
 use Rattle.sequence_table.specs.Makers.{Maker, Outgoing, Offered, Incoming, Taken, maker}

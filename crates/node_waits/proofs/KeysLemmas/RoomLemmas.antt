@@ -3,11 +3,11 @@ use Rattle.std.proofs.Common.{◌≡◌, suc, ◌+◌, ◌<◌, ◌≤◌, ◌||
 use Rattle.std.proofs.Common.{length, refl, sym, ap, ◌∙◌, arith}
 use Rattle.std.specs.Prelude.{Some, None}
 use Rattle.std.specs.List.{AllByRecursion}
-use Rattle.rm_timers.specs.declared.timers.Key.{Key}
-use Rattle.key_timers.specs.declared.cells.Cell.{Cell}
-use Rattle.key_timers.specs.Waits.{same_key, has_key}
-use Rattle.key_timers.specs.KeyLemmas.{same_key-is, same_key-sym}
-use Rattle.key_timers.specs.Keyed.{slot_at, Once}
+use Rattle.timers.specs.declared.slots.timers.Key.{Key}
+use Rattle.timers.specs.declared.keys.cells.Cell.{Cell}
+use Rattle.timers.specs.Keys.Waits.{same_key, has_key}
+use Rattle.timers.specs.Keys.KeyLemmas.{same_key-is, same_key-sym}
+use Rattle.timers.specs.Keys.Keyed.{slot_at, Once}
 
 -- without the first such key
 less : Key → List Key → List Key

@@ -8,13 +8,13 @@ use Rattle.std.specs.List.{AllByRecursion, remove}
 use Rattle.std.proofs.lemmas.Bool.Decides.{nat_tests}
 use Rattle.std.proofs.lemmas.List.{take-append-drop}
 use Rattle.std.proofs.lemmas.List.Elements.{filter-append}
-use Rattle.rm_timers.specs.declared.timers.Key.{Key}
-use Rattle.rm_timers.specs.Waits.{Entry}
-use Rattle.key_timers.specs.declared.cells.Cell.{Cell}
-use Rattle.key_timers.specs.Waits.{Wait, same_key, without}
-use Rattle.key_timers.specs.KeyLemmas.{same_key-is, same_key-refl}
-use Rattle.key_timers.specs.Keyed.{Keyed, StandsFor, Rises, is_before, slot_at, cell_at, keys_in, IsPlace, wait_of}
-use Rattle.key_timers.specs.Keyed.{cell_of}
+use Rattle.timers.specs.declared.slots.timers.Key.{Key}
+use Rattle.timers.specs.Slots.Waits.{Entry}
+use Rattle.timers.specs.declared.keys.cells.Cell.{Cell}
+use Rattle.timers.specs.Keys.Waits.{Wait, same_key, without}
+use Rattle.timers.specs.Keys.KeyLemmas.{same_key-is, same_key-refl}
+use Rattle.timers.specs.Keys.Keyed.{Keyed, StandsFor, Rises, is_before, slot_at, cell_at, keys_in, IsPlace, wait_of}
+use Rattle.timers.specs.Keys.Keyed.{cell_of}
 use Rattle.record_batch.specs.Fact.{Fact}
 use Rattle.rm_protocol.specs.Waiting.{is_waiting}
 use Rattle.rm_sides.specs.declared.ranges.range.Range.{Range}

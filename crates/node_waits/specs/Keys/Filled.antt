@@ -1,9 +1,9 @@
 -- What begins to wait at a mount.
 use Rattle.std.specs.Prelude.{◌≡◌, ◌<◌, ◌≤◌, ℕ, true, false, List, ◌++◌, map, filter}
 use Rattle.std.specs.List.{AllByRecursion}
-use Rattle.rm_timers.specs.declared.timers.Key.{Key}
-use Rattle.key_timers.specs.Keyed.{Keyed, StandsFor, keys_in, is_before}
-use Rattle.key_timers.specs.Waits.{Wait, fresh}
+use Rattle.timers.specs.declared.slots.timers.Key.{Key}
+use Rattle.timers.specs.Keys.Keyed.{Keyed, StandsFor, keys_in, is_before}
+use Rattle.timers.specs.Keys.Waits.{Wait, fresh}
 use Rattle.record_batch.specs.Fact.{Fact}
 use Rattle.rm_protocol.specs.Waiting.{is_waiting, key, numbers_from}
 

@@ -5,10 +5,10 @@ use Rattle.std.specs.List.{AllByRecursion, flat_map, list_any}
 use Rattle.rm_sides.specs.declared.ranges.range.Range.{Range}
 use Rattle.rm_sides.specs.Ranges.Ranges.{in_range}
 use Rattle.std.specs.Option.{option_to_list}
-use Rattle.rm_timers.specs.declared.timers.Key.{Key}
-use Rattle.key_timers.specs.declared.cells.Cell.{Cell}
-use Rattle.key_timers.specs.Keyed.{Once, slot_at}
-use Rattle.key_timers.specs.Waits.{Wait, has_key, begin_all, send_all, urge_all}
+use Rattle.timers.specs.declared.slots.timers.Key.{Key}
+use Rattle.timers.specs.declared.keys.cells.Cell.{Cell}
+use Rattle.timers.specs.Keys.Keyed.{Once, slot_at}
+use Rattle.timers.specs.Keys.Waits.{Wait, has_key, begin_all, send_all, urge_all}
 use Rattle.node_waits.specs.declared.keys.touched.Touched.{Touched}
 use Rattle.record_batch.specs.Fact.{Fact, Acked}
 use Rattle.rm_protocol.specs.Waiting.{is_waiting, key_count, still}

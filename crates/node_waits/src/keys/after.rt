@@ -1,17 +1,17 @@
 //! What a call of a node makes of the keys that wait, once its records are there.
 ghost use Rattle.std.specs.Prelude.{◌≡◌, ◌<◌, length, IfSome, None};
 ghost use Rattle.std.specs.Option.{option_to_list};
-ghost use Rattle.key_timers.specs.Keyed.{Steps, slot_at};
-ghost use Rattle.key_timers.specs.Waits.{begin_all, send_all};
+ghost use Rattle.timers.specs.Keys.Keyed.{Steps, slot_at};
+ghost use Rattle.timers.specs.Keys.Waits.{begin_all, send_all};
 ghost use Rattle.rm_base.specs.Limits.{most_keys};
 ghost use Rattle.node_waits.specs.Keys.Settled.{cells_all, changed, settled_all};
 
 use crate::keys::moves::{emit_all, urge_all};
 use crate::keys::records::settle;
 use crate::keys::touched::Touched;
-use key_timers::KeyTimers;
+use timers::keys::KeyTimers;
 use node_tables::Tables;
-use rm_timers::Key;
+use timers::slots::Key;
 
 /// Of the keys that were touched those that no longer wait by the records are gone.
 fn settle_all(timers: &mut KeyTimers, tables: &Tables, touched: &[Touched])

@@ -1,6 +1,6 @@
 //! All keys that wait by the records, at a mount.
 ghost use Rattle.std.specs.Prelude.{◌≡◌, ◌≤◌, ◌+◌, ◌-◌, [], length};
-ghost use Rattle.key_timers.specs.Keyed.{keys_in};
+ghost use Rattle.timers.specs.Keys.Keyed.{keys_in};
 ghost use Rattle.node_waits.specs.Keys.Filled.{AllBefore, Filled, NoneWaits, own_waiting};
 ghost use Rattle.node_waits.specs.Keys.Settled.{count_of as count_of_made};
 ghost use Rattle.rm_base.specs.Limits.{most_keys};
@@ -9,10 +9,10 @@ ghost use Rattle.rm_protocol.specs.Waiting.{key as key_of, waiting_keys};
 ghost use Rattle.sequence_table.specs.Makers.{maker};
 
 use crate::keys::waiting::waits;
-use key_timers::KeyTimers;
+use timers::keys::KeyTimers;
 use node_tables::Tables;
 use node_tables::laws::an_outgoing_sequence_is_as_recorded;
-use rm_timers::Key;
+use timers::slots::Key;
 
 /// How many keys a sequence has: its request and its messages.
 fn count_of(tables: &Tables, seq: u32) -> u64

@@ -1,12 +1,12 @@
 //! What a tick emits, and what a Nack wants.
 ghost use Rattle.std.specs.Prelude.{◌≡◌, ◌≤◌, IfOk, List, max};
 ghost use Rattle.rm_base.specs.Limits.{now_max};
-ghost use Rattle.key_timers.specs.Keyed.{Steps, StandsFor};
-ghost use Rattle.key_timers.specs.Waits.{Wait, first_due, send_all, urge_all as urge_all_of};
+ghost use Rattle.timers.specs.Keys.Keyed.{Steps, StandsFor};
+ghost use Rattle.timers.specs.Keys.Waits.{Wait, first_due, send_all, urge_all as urge_all_of};
 
-use key_timers::{KeyTimers, MOST_EMITTED};
+use timers::keys::{KeyTimers, MOST_EMITTED};
 use rm_base::Memory;
-use rm_timers::Key;
+use timers::slots::Key;
 use std::alloc::Global;
 
 /// The first keys that are due, as many as a tick emits, by class and then by the order of the last move.

@@ -1,14 +1,14 @@
 //! The keys that records may have ended, once the records were added.
 ghost use Rattle.std.specs.Prelude.{◌≡◌, ◌≤◌, length, slice_get};
-ghost use Rattle.key_timers.specs.Keyed.{Steps, keys_in};
+ghost use Rattle.timers.specs.Keys.Keyed.{Steps, keys_in};
 ghost use Rattle.rm_base.specs.Limits.{most_keys};
 ghost use Rattle.node_waits.specs.Keys.Settled.{own_of, settled, settled_cells};
 
 use crate::keys::touched::Touched;
 use crate::keys::waiting::waits;
-use key_timers::KeyTimers;
+use timers::keys::KeyTimers;
 use node_tables::Tables;
-use rm_timers::Key;
+use timers::slots::Key;
 
 /// The key at a place, where it was touched.
 fn own_key(timers: &KeyTimers, place: usize, touched: Touched) -> Option<Key>

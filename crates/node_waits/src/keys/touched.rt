@@ -8,7 +8,7 @@ ghost use Rattle.record_batch.specs.Fact.{fact_of};
 use rm_sides::ranges::Range;
 use record_batch::Record;
 use rm_base::Memory;
-use rm_timers::Key;
+use timers::slots::Key;
 use std::alloc::Global;
 
 /// Keys of one sequence that records may end: those of the numbers of a range, or all.

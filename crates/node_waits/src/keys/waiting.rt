@@ -6,7 +6,7 @@ ghost use Rattle.sequence_table.specs.Sources.{is_sending as is_sending_in};
 use node_tables::Tables;
 use node_tables::laws::an_outgoing_sequence_is_as_recorded;
 use rm_sides::source::{OutPhase, Outgoing};
-use rm_timers::Key;
+use timers::slots::Key;
 
 fn is_requesting(phase: OutPhase) -> bool
     ensures { result ≡ is_requesting_in phase }

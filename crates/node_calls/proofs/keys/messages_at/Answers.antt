@@ -4,7 +4,7 @@ use Rattle.std.proofs.lemmas.List.{at_drop_more}
 use Rattle.rm_message.specs.declared.message.Message.{Message}
 use Rattle.rm_protocol.specs.Calls.{message_at, messages_at}
 use Rattle.rm_protocol.specs.Waiting.{key as key_of}
-use Rattle.rm_timers.specs.declared.timers.Key.{Key}
+use Rattle.timers.specs.declared.slots.timers.Key.{Key}
 use Rattle.std.specs.Prelude.{List}
 use Rattle.tables_ahead.specs.Known.{all_records}
 use Rattle.node_calls.proofs.keys.messages_at.Goals as goal

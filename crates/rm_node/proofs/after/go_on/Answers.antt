@@ -1,5 +1,5 @@
 use Rattle.std.proofs.Common.{◌∙◌, ap}
-use Rattle.make_connection.specs.Waiting.{Pended}
+use Rattle.timers.specs.Pending.Waiting.{Pended}
 use Rattle.rm_message.specs.declared.message.Message.{Message}
 use Rattle.rm_protocol.specs.Polls.{puts_all}
 use Rattle.node_waits.specs.Held.{messages_of}

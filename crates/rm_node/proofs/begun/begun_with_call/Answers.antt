@@ -1,5 +1,5 @@
 use Rattle.std.proofs.Common.{◌∙◌, Some, ap, sym, subst}
-use Rattle.rm_timers.specs.declared.timers.Key.{Key}
+use Rattle.timers.specs.declared.slots.timers.Key.{Key}
 use Rattle.rm_node.specs.Asked.{Asks}
 use Rattle.rm_node.specs.Timed.{begun_with}
 use Rattle.rm_node.specs.declared.call.Call.{Call}

@@ -1,7 +1,7 @@
 use Rattle.std.proofs.Common.{◌≡◌, ◌∙◌, ℕ, List, max, ap, subst}
 use Rattle.std.specs.Prelude.{IfOk}
-use Rattle.rm_timers.specs.declared.timers.Key.{Key}
-use Rattle.key_timers.specs.Waits.{first_due}
+use Rattle.timers.specs.declared.slots.timers.Key.{Key}
+use Rattle.timers.specs.Keys.Waits.{first_due}
 use Rattle.rm_protocol.specs.Calls.{tick_with}
 use Rattle.node_laws.specs.Answers.Answers.{seen}
 use Rattle.node_laws.specs.declared.answers.answer.Answer.{Answer}

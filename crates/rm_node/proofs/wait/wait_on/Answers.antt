@@ -1,5 +1,5 @@
 use Rattle.std.proofs.Common.{◌∙◌, subst}
-use Rattle.key_timers.specs.Keyed.{Rises}
+use Rattle.timers.specs.Keys.Keyed.{Rises}
 use Rattle.rm_node.proofs.wait.wait_on.Goals as goal
 
 pub after_call-requires : goal.after_call-requires

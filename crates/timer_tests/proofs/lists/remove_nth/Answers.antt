@@ -1,8 +1,8 @@
 use Rattle.std.proofs.Common.{◌≡◌, ℕ, zero, suc, ◌<◌, List, [], ◌∷◌, ◌++◌, Some, take, drop, length, slice_get, refl}
 use Rattle.std.proofs.Common.{sym, ap, subst, ◌∙◌, arith, length-set}
 use Rattle.std.proofs.lemmas.Option.{slice_get_within, get_or_from_slice_get}
-use Rattle.due_links.specs.declared.links.Item.{Item}
-use Rattle.due_links.specs.Items.{Contents, IsWhole, IsLive, list_at}
+use Rattle.timers.specs.declared.links.links.Item.{Item}
+use Rattle.timers.specs.Links.Items.{Contents, IsWhole, IsLive, list_at}
 use Rattle.timer_tests.proofs.lists.remove_nth.Goals as goal
 
 -- the item at a place stands between those before it and those behind it

@@ -1,6 +1,6 @@
 use Rattle.std.proofs.Common.{◌≡◌, List, drop}
-use Rattle.key_timers.specs.Keyed.{StandsFor}
-use Rattle.key_timers.specs.Waits.{Wait}
+use Rattle.timers.specs.Keys.Keyed.{StandsFor}
+use Rattle.timers.specs.Keys.Waits.{Wait}
 use Rattle.node_waits.specs.Keys.Settled.{cells_all}
 use Rattle.node_waits.proofs.KeysLemmas.AfterLemmas.{Looked}
 use Rattle.node_waits.proofs.keys.after.settle_all.Given as goal

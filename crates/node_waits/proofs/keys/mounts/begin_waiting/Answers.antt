@@ -1,6 +1,6 @@
 use Rattle.std.proofs.Common.{◌+◌, List, sym, subst}
-use Rattle.rm_timers.specs.declared.timers.Key.{Key}
-use Rattle.key_timers.specs.Keyed.{keys_in}
+use Rattle.timers.specs.declared.slots.timers.Key.{Key}
+use Rattle.timers.specs.Keys.Keyed.{keys_in}
 use Rattle.rm_protocol.specs.Waiting.{key}
 use Rattle.node_waits.specs.Keys.Filled.{AllBefore}
 use Rattle.node_waits.proofs.KeysLemmas.FillLemmas.{before-next, before-with}

@@ -1,6 +1,6 @@
 use Rattle.std.proofs.Common.{◌≡◌, ◌+◌, ◌≤◌, ◌<◌, ℕ, List, length, ap, subst, arith, filter, drop}
-use Rattle.key_timers.specs.declared.cells.Cell.{Cell}
-use Rattle.key_timers.specs.Keyed.{keys_in}
+use Rattle.timers.specs.declared.keys.cells.Cell.{Cell}
+use Rattle.timers.specs.Keys.Keyed.{keys_in}
 use Rattle.sequence_table.specs.Makers.{maker, makers}
 use Rattle.rm_protocol.specs.Waiting.{key, is_waiting, keys_from, waiting_keys}
 use Rattle.node_waits.specs.Keys.Filled.{Filled, own_waiting}

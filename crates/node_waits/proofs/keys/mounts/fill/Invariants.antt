@@ -1,5 +1,5 @@
 use Rattle.std.proofs.Common.{◌+◌, drop, filter}
-use Rattle.key_timers.specs.Keyed.{keys_in}
+use Rattle.timers.specs.Keys.Keyed.{keys_in}
 use Rattle.rm_protocol.specs.Waiting.{key, is_waiting, keys_from, waiting_keys}
 use Rattle.sequence_table.specs.Makers.{makers}
 use Rattle.node_waits.specs.Keys.Filled.{AllBefore}

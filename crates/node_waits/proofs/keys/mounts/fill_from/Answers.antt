@@ -1,5 +1,5 @@
 use Rattle.std.proofs.Common.{◌+◌, ◌-◌, arith}
-use Rattle.key_timers.specs.Keyed.{keys_in}
+use Rattle.timers.specs.Keys.Keyed.{keys_in}
 use Rattle.node_waits.specs.Keys.Filled.{own_waiting}
 use Rattle.node_waits.proofs.KeysLemmas.FillLemmas.{part-none, part-more, part-few, part-all, own-next, own-none}
 use Rattle.node_waits.proofs.KeysLemmas.FillLemmas.{before-sequence}

@@ -1,5 +1,5 @@
 use Rattle.std.proofs.Common.{◌-◌}
-use Rattle.key_timers.specs.Keyed.{keys_in}
+use Rattle.timers.specs.Keys.Keyed.{keys_in}
 use Rattle.rm_protocol.specs.Waiting.{key}
 use Rattle.node_waits.specs.Keys.Filled.{AllBefore, own_waiting}
 use Rattle.node_waits.proofs.KeysLemmas.FillLemmas.{Part}

@@ -1,6 +1,6 @@
 use Rattle.std.proofs.Common.{◌≡◌, ◌+◌, ◌-◌, ◌<◌, ◌∙◌, ℕ, List, length, ap, sym, subst, arith, length-append}
-use Rattle.rm_timers.specs.declared.timers.Key.{Key}
-use Rattle.key_timers.specs.Keyed.{keys_in}
+use Rattle.timers.specs.declared.slots.timers.Key.{Key}
+use Rattle.timers.specs.Keys.Keyed.{keys_in}
 use Rattle.node_waits.specs.Keys.Filled.{Filled, own_waiting}
 use Rattle.node_waits.proofs.KeysLemmas.FillLemmas.{before-later, before-sequence, filled-more, filled-none}
 use Rattle.node_waits.proofs.KeysLemmas.GoneLemmas.{own-skips}

@@ -1,6 +1,6 @@
 use Rattle.std.proofs.Common.{◌≡◌, ◌≤◌, ◌∙◌, ◌++◌, ◌∷◌, [], ℕ, List, max, sym, ap, take, arith}
-use Rattle.rm_timers.specs.declared.timers.Key.{Key}
-use Rattle.key_timers.specs.Waits.{due_at, keys_of, most_emitted}
+use Rattle.timers.specs.declared.slots.timers.Key.{Key}
+use Rattle.timers.specs.Keys.Waits.{due_at, keys_of, most_emitted}
 use Rattle.node_waits.proofs.KeysLemmas.MoveLemmas.{take-got, take-past, taken-keys}
 use Rattle.node_waits.proofs.keys.moves.due_keys.Goals as goal
 

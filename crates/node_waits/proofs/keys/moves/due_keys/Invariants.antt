@@ -1,6 +1,6 @@
 use Rattle.std.proofs.Common.{◌≡◌, List, max, take}
-use Rattle.key_timers.specs.Keyed.{StandsFor}
-use Rattle.key_timers.specs.Waits.{Wait, due_at, keys_of}
+use Rattle.timers.specs.Keys.Keyed.{StandsFor}
+use Rattle.timers.specs.Keys.Waits.{Wait, due_at, keys_of}
 use Rattle.node_waits.proofs.keys.moves.due_keys.Given as goal
 
 abbrev pub invariant-loop-k : goal.invariant-loop-k

@@ -1,6 +1,6 @@
 use Rattle.std.proofs.Common.{◌≡◌, List, drop}
-use Rattle.key_timers.specs.Keyed.{StandsFor}
-use Rattle.key_timers.specs.Waits.{Wait, send_all}
+use Rattle.timers.specs.Keys.Keyed.{StandsFor}
+use Rattle.timers.specs.Keys.Waits.{Wait, send_all}
 use Rattle.node_waits.proofs.KeysLemmas.MoveLemmas.{Moved}
 use Rattle.node_waits.proofs.keys.moves.emit_all.Given as goal
 

@@ -1,8 +1,8 @@
 use Rattle.std.proofs.Common.{◌≡◌, ◌∙◌, ◌+◌, List, length, refl, sym, ap, subst, arith}
 use Rattle.std.proofs.lemmas.List.Edits.{length-remove}
-use Rattle.key_timers.specs.declared.cells.Cell.{Cell}
-use Rattle.key_timers.specs.Keyed.{IsPlace, StandsFor, cell_at}
-use Rattle.rm_timers.specs.declared.timers.Key.{Key}
+use Rattle.timers.specs.declared.keys.cells.Cell.{Cell}
+use Rattle.timers.specs.Keys.Keyed.{IsPlace, StandsFor, cell_at}
+use Rattle.timers.specs.declared.slots.timers.Key.{Key}
 use Rattle.node_waits.proofs.KeysLemmas.SettleLemmas.{with_cells, pass-begins, pass-keeps, pass-takes, pass-ends}
 use Rattle.node_waits.proofs.KeysLemmas.SettleLemmas.{place-within, begins-with, without-one, ends-with, each-there}
 use Rattle.node_waits.proofs.keys.records.settle.Goals as goal

@@ -1,6 +1,6 @@
 use Rattle.std.proofs.Common.{◌≡◌, ◌-◌, List, length}
-use Rattle.key_timers.specs.Keyed.{StandsFor}
-use Rattle.key_timers.specs.Waits.{Wait}
+use Rattle.timers.specs.Keys.Keyed.{StandsFor}
+use Rattle.timers.specs.Keys.Waits.{Wait}
 use Rattle.node_waits.proofs.KeysLemmas.SettleLemmas.{Passed, with_cells}
 use Rattle.node_waits.proofs.keys.records.settle.Given as goal
 

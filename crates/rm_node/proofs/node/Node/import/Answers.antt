@@ -1,5 +1,5 @@
 use Rattle.std.proofs.Common.{◌∙◌, List, subst}
-use Rattle.key_timers.specs.Keyed.{StandsFor}
+use Rattle.timers.specs.Keys.Keyed.{StandsFor}
 use Rattle.record_batch.specs.Fact.{Fact}
 use Rattle.rm_protocol.specs.Waiting.{mounted_waits}
 use Rattle.rm_node.proofs.TimedLemmas.{timed-first}

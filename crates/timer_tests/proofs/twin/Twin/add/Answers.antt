@@ -1,5 +1,5 @@
 use Rattle.timer_tests.proofs.TwinLemmas.{twin_kept, twin_pushed, begun_keeps, begun_has}
-use Rattle.rm_timers.specs.Waits.{begun}
+use Rattle.timers.specs.Slots.Waits.{begun}
 use Rattle.timer_tests.proofs.twin.Twin.add.Goals as goal
 
 pub invariant_of-self : goal.invariant_of-self

@@ -1,5 +1,5 @@
 use Rattle.std.proofs.Common.{◌<◌, length, refl, sym, subst}
-use Rattle.rm_timers.specs.Waits.{emitted, moved_last}
+use Rattle.timers.specs.Slots.Waits.{emitted, moved_last}
 use Rattle.timer_tests.proofs.TwinLemmas.{AllLive, live_of, live_at, live_removed, moved_keeps, twin_pushed}
 use Rattle.timer_tests.proofs.twin.Twin.sent.Goals as goal
 

@@ -1,5 +1,5 @@
 use Rattle.std.proofs.Common.{slice_get, refl, sym, subst}
-use Rattle.rm_timers.specs.Waits.{with_emitted, due_at}
+use Rattle.timers.specs.Slots.Waits.{with_emitted, due_at}
 use Rattle.timer_tests.proofs.TwinLemmas.{AllLive, live_at, live_removed, emitted_keeps, twin_kept, twin_pushed}
 use Rattle.timer_tests.proofs.twin.Twin.take_due.Goals as goal
 

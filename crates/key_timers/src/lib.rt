@@ -1,8 +1,0 @@
-//! The keys that wait to be emitted, found by key. It stands on the timers whose callers keep a slot for each key,
-//! `rm_timers`. The layer above may see `KeyTimers` as standing for one plain list, in the order of the last move.
-#![tactic(auto)]
-
-mod cells;
-mod timers;
-
-pub use timers::{KeyTimers, MOST_EMITTED};

@@ -1,4 +1,0 @@
-mod EachLemmas
-mod LimitLemmas
-mod NameLemmas
-mod TableLemmas

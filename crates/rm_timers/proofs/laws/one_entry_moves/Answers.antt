@@ -1,5 +1,0 @@
-use Rattle.rm_timers.proofs.PlainLemmas.{one_at, others_at, moved_is}
-use Rattle.rm_timers.proofs.laws.one_entry_moves.Goals as goal
-
-pub returns : goal.returns
-returns c = record { one = one_at; others = others_at; moved = moved_is }

@@ -1,8 +1,0 @@
-use Rattle.std.proofs.Common.{◌≡◌, drop}
-use Rattle.std.specs.Prelude.{slice_get}
-use Rattle.rm_timers.specs.Table.{fronts}
-use Rattle.rm_timers.proofs.table.find_due.Given as goal
-
-abbrev pub invariant-loop-class : goal.invariant-loop-class
-invariant-loop-class g l =
-    slice_get (fronts l.time (drop l.class l.links.lists)) l.left ≡ slice_get (fronts l.time l.links.lists) l.k

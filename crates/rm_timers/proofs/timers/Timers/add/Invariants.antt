@@ -1,4 +1,0 @@
-use Rattle.rm_timers.proofs.timers.Timers.add.Given as goal
-
-abbrev pub ghosts-put_new : goal.ghosts-put_new
-ghosts-put_new a = record { name = a.blank.name; parts = a.blank.parts }

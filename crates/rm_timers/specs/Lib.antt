@@ -1,3 +1,0 @@
-pub mod Waits
-pub mod Laws
-pub mod Table

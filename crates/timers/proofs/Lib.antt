@@ -1,0 +1,4 @@
+pub mod LinksLemmas
+pub mod SlotsLemmas
+pub mod KeysLemmas
+pub mod PendingLemmas

@@ -1,0 +1,4 @@
+use Rattle.timers.proofs.slots.timers.Timers.urge.Given as goal
+
+abbrev pub ghosts-shift : goal.ghosts-shift
+ghosts-shift a = record { name = a.blank.name; parts = a.blank.parts }
