@@ -1,7 +1,7 @@
 //! Tests of `wsa_headers`. What a test does stands in a helper that answers a plain value, since a test with many steps
 //! is slow to prove.
 use rm_base::{Blob, Memory};
-use soap_profile::{Element, Elements, EnvelopeError, Item, read_element};
+use soap_document::profile::{Element, Elements, EnvelopeError, Item, read_element};
 use std::alloc::Global;
 use wsa_headers::{
     Addressing, AddressingError, Epr, read_addressing, read_epr, write_addressing, write_epr,

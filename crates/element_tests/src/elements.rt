@@ -5,7 +5,7 @@ use rm_elements::{
     ElementError, Header, Lifecycle, deadline, read_duration, read_header, read_lifecycle,
     write_header, write_lifecycle,
 };
-use soap_profile::{Element, EnvelopeError, read_element};
+use soap_document::profile::{Element, EnvelopeError, read_element};
 use std::alloc::Global;
 
 const FRAME: &[u8] = b" xmlns:s=\"http://www.w3.org/2003/05/soap-envelope\" \

@@ -1,10 +1,10 @@
 -- One header block before others.
 use Rattle.std.proofs.Common.{◌≡◌, ◌++◌, List, [], ◌∷◌, ℕ, Bool, true, false, if◌then◌else◌, refl, map}
 use Rattle.std.specs.List.{filter}
-use Rattle.soap_profile.specs.Tree.{Element, name_of}
-use Rattle.soap_profile.specs.declared.name.Expanded.{Expanded}
-use Rattle.soap_profile.specs.View.{element_view}
-use Rattle.soap_profile.specs.declared.tree.Element.{Element as CodeElement}
+use Rattle.soap_document.specs.Profile.Tree.{Element, name_of}
+use Rattle.soap_document.specs.declared.profile.name.Expanded.{Expanded}
+use Rattle.soap_document.specs.Profile.View.{element_view}
+use Rattle.soap_document.specs.declared.profile.tree.Element.{Element as CodeElement}
 use Rattle.message_reader.specs.Blocks.{is_block, blocks, is_not_understood, not_understood}
 
 kept : (b : Bool) (e : Element) (es : List Element) → (if b then e ∷ es else es) ≡ (if b then e ∷ [] else []) ++ es

@@ -2,12 +2,12 @@
 use Rattle.std.proofs.Common.{◌≡◌, ℕ, List, [], ◌∷◌, ◌++◌, Option, Some, None, Result, Ok, Err, refl, sym, ap, subst}
 use Rattle.std.proofs.Common.{◌∙◌, length, ◌≤◌}
 use Rattle.std.specs.Prelude.{IfOk, IfErr, option_map}
-use Rattle.soap_profile.specs.Document.{IsReadable, IsTooLong, IsTextUpTo, HasNoTree}
-use Rattle.soap_profile.specs.Items.{Item, parts_among, listed}
-use Rattle.soap_profile.specs.Tree.{Parts, none, text, child}
-use Rattle.soap_profile.specs.declared.name.Expanded.{Expanded}
-use Rattle.soap_profile.specs.declared.error.EnvelopeError.{EnvelopeError}
-use Rattle.soap_profile.specs.declared.error.EnvelopeError.TheVariants as early
+use Rattle.soap_document.specs.Profile.Document.{IsReadable, IsTooLong, IsTextUpTo, HasNoTree}
+use Rattle.soap_document.specs.Profile.Items.{Item, parts_among, listed}
+use Rattle.soap_document.specs.Profile.Tree.{Parts, none, text, child}
+use Rattle.soap_document.specs.declared.profile.name.Expanded.{Expanded}
+use Rattle.soap_document.specs.declared.profile.error.EnvelopeError.{EnvelopeError}
+use Rattle.soap_document.specs.declared.profile.error.EnvelopeError.TheVariants as early
 use Rattle.soap_envelope.specs.Envelope.{Envelope, IsEnvelope}
 use Rattle.soap_envelope.specs.Refusals.{WrongVersion, NotEnvelope}
 use Rattle.soap_envelope.specs.View.{envelope_view}

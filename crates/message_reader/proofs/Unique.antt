@@ -6,8 +6,8 @@ use Rattle.std.proofs.lemmas.Bool.{ltb-true, ltb-false}
 use Rattle.std.specs.Str.{IsUtf8}
 use Rattle.soap_document.specs.Grammar.{IsDocument}
 use Rattle.soap_document.specs.Tree as written
-use Rattle.soap_profile.specs.Document.{Document, IsReadable, IsTextUpTo, HasNoTree}
-use Rattle.soap_profile.specs.Tree.{Element}
+use Rattle.soap_document.specs.Profile.Document.{Document, IsReadable, IsTextUpTo, HasNoTree}
+use Rattle.soap_document.specs.Profile.Tree.{Element}
 use Rattle.soap_envelope.specs.Envelope.{Envelope, IsEnvelope}
 use Rattle.soap_envelope.specs.Refusals.{WrongVersion, NotEnvelope}
 use Rattle.rm_message.specs.declared.message.Message.{Message}

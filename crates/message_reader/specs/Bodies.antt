@@ -4,9 +4,9 @@ use Rattle.std.specs.Prelude.{ℕ, List, [], ◌∷◌, Bool, not, ◌||◌, if�
 use Rattle.std.specs.Prelude.{Ok, Err, codes}
 use Rattle.std.specs.Str.{bytes_eq}
 use Rattle.rm_base.specs.declared.message.Payload.{Payload}
-use Rattle.soap_profile.specs.Tree.{Element, Parts, children_of}
+use Rattle.soap_document.specs.Profile.Tree.{Element, Parts, children_of}
 use Rattle.rm_base.specs.declared.message.Binding.{Binding}
-use Rattle.soap_profile.specs.declared.name.Expanded.{Expanded}
+use Rattle.soap_document.specs.declared.profile.name.Expanded.{Expanded}
 use Rattle.soap_values.specs.Children.{name_in, has_name}
 use Rattle.soap_values.specs.Outcome.{◌>>=◌, single}
 use Rattle.wsa_headers.specs.Addressing.{first_of}

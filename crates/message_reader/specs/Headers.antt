@@ -2,9 +2,9 @@
 -- Part 1 (5.4.8) say, beside those of WS-Addressing.
 use Rattle.std.specs.Prelude.{ℕ, List, [], ◌∷◌, Bool, if◌then◌else◌, Option, Some, None, Result, Ok, Err, codes}
 use Rattle.std.specs.List.{flat_map}
-use Rattle.soap_profile.specs.Tree.{Element, attrs_of, parts_of}
+use Rattle.soap_document.specs.Profile.Tree.{Element, attrs_of, parts_of}
 use Rattle.rm_base.specs.declared.message.Binding.{Binding}
-use Rattle.soap_profile.specs.declared.name.Expanded.{Expanded}
+use Rattle.soap_document.specs.declared.profile.name.Expanded.{Expanded}
 use Rattle.soap_values.specs.Children.{name_in, value_among, children_named}
 use Rattle.soap_values.specs.Outcome.{◌>>=◌, optional, single, each, if_present}
 use Rattle.soap_values.specs.QNames.{within, qname_in}

@@ -2,7 +2,7 @@
 -- 2.6 and 5.4, and WS-Addressing 1.0 Core, section 3.4.
 use Rattle.std.specs.Prelude.{◌≡◌, ◌≤◌, ◌<◌, ℕ, List, [], length, Option, Some, None, Result, Ok, Err, codes}
 use Rattle.rm_base.specs.Limits as limits
-use Rattle.soap_profile.specs.Document.{IsReadable, IsTextUpTo, HasNoTree}
+use Rattle.soap_document.specs.Profile.Document.{IsReadable, IsTextUpTo, HasNoTree}
 use Rattle.soap_envelope.specs.Envelope.{Envelope, IsEnvelope}
 use Rattle.soap_envelope.specs.Refusals.{WrongVersion, NotEnvelope}
 use Rattle.wsa_headers.specs.Addressing.{anonymous as anonymous_uri}

@@ -1,8 +1,8 @@
 //! Header blocks by name, and those that had to be understood: SOAP 1.2 Part 1, section 2.4.
 ghost use Rattle.std.specs.Prelude.{◌≡◌, ◌++◌, map, option_map, IfOk};
 ghost use Rattle.std.specs.Str.{bytes_eq};
-ghost use Rattle.soap_profile.specs.View.{element_view};
-ghost use Rattle.soap_profile.specs.Tree.{attrs_of};
+ghost use Rattle.soap_document.specs.Profile.View.{element_view};
+ghost use Rattle.soap_document.specs.Profile.Tree.{attrs_of};
 ghost use Rattle.soap_values.specs.Children.{name_in, is_same, value_among};
 ghost use Rattle.soap_values.specs.Outcome.{Gives, optional};
 ghost use Rattle.soap_values.specs.Steps.{lent_trees};
@@ -27,7 +27,7 @@ use rm_base::{Items, Memory};
 use rm_elements::{MESSAGING, header_name};
 use rm_message::Names;
 use soap_envelope::is_soap11;
-use soap_profile::{Element, Name};
+use soap_document::profile::{Element, Name};
 use soap_values::{Flaw, find_value, is_named, is_true_mark, trim};
 use std::alloc::Global;
 use wsa_headers::{ADDRESSING, is_parameter};

@@ -1,7 +1,7 @@
 //! What a message has in its Body: a Fault, or what its action says.
 ghost use Rattle.std.specs.Prelude.{◌≡◌, option_map, IfOk};
-ghost use Rattle.soap_profile.specs.Tree.{children_of};
-ghost use Rattle.soap_profile.specs.View.{element_view, parts_view};
+ghost use Rattle.soap_document.specs.Profile.Tree.{children_of};
+ghost use Rattle.soap_document.specs.Profile.View.{element_view, parts_view};
 ghost use Rattle.soap_values.specs.Children.{name_in};
 ghost use Rattle.soap_values.specs.Outcome.{Gives, single};
 ghost use Rattle.wsa_headers.specs.Addressing.{first_of};
@@ -27,7 +27,7 @@ use rm_base::{Binding, Memory, Payload};
 use rm_elements::{CONNECTION, ElementError, MESSAGING, read_lifecycle};
 use rm_message::{Body, FaultBody, actions};
 use soap_envelope::is_soap11;
-use soap_profile::{Element, Item, Parts};
+use soap_document::profile::{Element, Item, Parts};
 use soap_values::{Flaw, is_named};
 use std::alloc::Global;
 

@@ -1,7 +1,7 @@
 //! Faults: SOAP 1.2 Part 1, section 5.4. None is refused: what can't be read is absent.
 ghost use Rattle.std.specs.Prelude.{◌≡◌, ◌∷◌, [], ◌++◌, Option, map, option_map, IfOk, OnOk, Some};
-ghost use Rattle.soap_profile.specs.Tree.{children_of, without_declarations};
-ghost use Rattle.soap_profile.specs.View.{element_view, parts_view};
+ghost use Rattle.soap_document.specs.Profile.Tree.{children_of, without_declarations};
+ghost use Rattle.soap_document.specs.Profile.View.{element_view, parts_view};
 ghost use Rattle.soap_values.specs.Children.{name_in, children_named};
 ghost use Rattle.soap_values.specs.Outcome.{Gives};
 ghost use Rattle.soap_values.specs.Steps.{lent_trees};
@@ -27,7 +27,7 @@ ghost use Rattle.message_reader.specs.Faults.{
 
 use rm_base::{Binding, Blob, Memory};
 use rm_message::{FaultBody, FaultCode};
-use soap_profile::{Element, Elements, Item, Name, strip};
+use soap_document::profile::{Element, Elements, Item, Name, strip};
 use soap_values::{Flaw, is_named, read_qname, read_trimmed};
 use std::alloc::Global;
 

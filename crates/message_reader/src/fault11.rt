@@ -1,7 +1,7 @@
 //! Faults of SOAP 1.1, section 4.4, and the header SequenceFault that goes with them: WS-ReliableMessaging 1.2, section
 //! 4. No Fault is refused: what can't be read is absent.
 ghost use Rattle.std.specs.Prelude.{◌≡◌, map, option_map, IfOk};
-ghost use Rattle.soap_profile.specs.View.{element_view};
+ghost use Rattle.soap_document.specs.Profile.View.{element_view};
 ghost use Rattle.soap_values.specs.Outcome.{Gives, if_present};
 ghost use Rattle.message_reader.specs.Faults.{spaced, fault_with as fault_of_parts};
 ghost use Rattle.message_reader.specs.Faults11.{
@@ -25,7 +25,7 @@ use rm_base::{Binding, Blob, Memory};
 use rm_elements::{CONNECTION, MESSAGING};
 use rm_message::{FaultBody, FaultCode};
 use soap_envelope::is_soap11;
-use soap_profile::{Element, Elements, Name};
+use soap_document::profile::{Element, Elements, Name};
 use soap_values::{Flaw, find_optional, find_single, is_named, read_qname, read_trimmed};
 use std::alloc::Global;
 use wsa_headers::ADDRESSING;

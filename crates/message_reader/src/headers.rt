@@ -2,7 +2,7 @@
 //! WS-MakeConnection 1.1, section 3.3, and SOAP 1.2 Part 1, section 5.4.8.
 ghost use Rattle.std.specs.Prelude.{◌≡◌, ◌++◌, map, option_map, IfOk, OnOk, Some};
 ghost use Rattle.std.specs.List.{flat_map};
-ghost use Rattle.soap_profile.specs.View.{element_view};
+ghost use Rattle.soap_document.specs.Profile.View.{element_view};
 ghost use Rattle.soap_values.specs.Outcome.{Gives, each, if_present};
 ghost use Rattle.soap_values.specs.Steps.{lent_trees};
 ghost use Rattle.message_reader.specs.Headers.{
@@ -24,7 +24,7 @@ use rm_base::{Binding, Ident, Items, Memory};
 use rm_elements::{AckBlock, CONNECTION, ElementError, Header, MESSAGING, SeqHeader, read_header};
 use rm_message::{Acks, Idents, Names};
 use soap_envelope::is_soap11;
-use soap_profile::{Element, Name};
+use soap_document::profile::{Element, Name};
 use soap_values::{Flaw, find_value, read_qname};
 use std::alloc::Global;
 

@@ -1,6 +1,6 @@
 //! The message of an envelope, where SOAP has a namespace.
 ghost use Rattle.std.specs.Prelude.{◌≡◌, codes, map, IfOk};
-ghost use Rattle.soap_profile.specs.View.{element_view};
+ghost use Rattle.soap_document.specs.Profile.View.{element_view};
 ghost use Rattle.soap_envelope.specs.View.{envelope_view};
 ghost use Rattle.soap_values.specs.Outcome.{Gives};
 ghost use Rattle.wsa_headers.specs.Addressing.{uri_header};
@@ -29,7 +29,7 @@ use rm_base::{Binding, Memory, Payload};
 use rm_elements::{MESSAGING, SeqHeader};
 use rm_message::{Acks, Body, Idents, Message, Names, actions};
 use soap_envelope::Envelope;
-use soap_profile::{Element, Parts};
+use soap_document::profile::{Element, Parts};
 use soap_values::Flaw;
 use std::alloc::Global;
 use wsa_headers::{ADDRESSING, Addressing, AddressingError, read_address_of, read_addressing};

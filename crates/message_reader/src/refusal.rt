@@ -14,7 +14,7 @@ ghost use Rattle.message_reader.specs.Refusals.{
 use crate::cause::Cause;
 use rm_base::{Ident, Items, Memory, Uri};
 use rm_message::{FaultKind, Names, Refusal};
-use soap_profile::Elements;
+use soap_document::profile::Elements;
 use soap_values::{Flaw, read_uri};
 use std::alloc::Global;
 use wsa_headers::{ANONYMOUS, Addressing, Epr};

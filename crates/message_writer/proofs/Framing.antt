@@ -9,10 +9,10 @@ use Rattle.std.proofs.lemmas.List.Folds.{flat_map-map}
 use Rattle.rm_base.specs.Text.{IsText}
 use Rattle.rm_base.specs.declared.message.Binding.{Binding}
 use Rattle.soap_document.specs.Grammar.{max_depth}
-use Rattle.soap_profile.specs.Namespaces.{bound}
-use Rattle.soap_profile.specs.Payload.{IsClosedContent}
-use Rattle.soap_profile.specs.Tree.{Element, Parts, none, child}
-use Rattle.soap_profile.specs.declared.name.Expanded.{Expanded}
+use Rattle.soap_document.specs.Profile.Namespaces.{bound}
+use Rattle.soap_document.specs.Profile.Payload.{IsClosedContent}
+use Rattle.soap_document.specs.Profile.Tree.{Element, Parts, none, child}
+use Rattle.soap_document.specs.declared.profile.name.Expanded.{Expanded}
 use Rattle.soap_envelope.specs.Envelope.{IsEnvelope}
 use Rattle.soap_writer.specs.Frame.{frame_scope}
 use Rattle.soap_writer.specs.ReadBack.{ReadsAs, ContentReadsAs}

@@ -4,8 +4,8 @@
 use Rattle.std.specs.Prelude.{ℕ, List, [], ◌∷◌, ◌++◌, Option, Some, None, codes, option_map}
 use Rattle.std.specs.Option.{option_to_list}
 use Rattle.soap_envelope.specs.Soap.{soap_space}
-use Rattle.soap_profile.specs.Tree.{Element}
-use Rattle.soap_profile.specs.declared.name.Expanded.{Expanded}
+use Rattle.soap_document.specs.Profile.Tree.{Element}
+use Rattle.soap_document.specs.declared.profile.name.Expanded.{Expanded}
 use Rattle.soap_writer.specs.Frame.{addressing_space, messaging_space, connection_space}
 use Rattle.soap_nodes.specs.Node.{leaf, node_tree}
 use Rattle.wsa_headers.specs.declared.addressing.Addressing.{Addressing}

@@ -5,9 +5,9 @@ use Rattle.std.specs.List.{AllByRecursion}
 use Rattle.rm_base.specs.Text.{IsText}
 use Rattle.rm_base.specs.declared.message.Payload.{Payload}
 use Rattle.soap_lex.specs.Characters.{IsChars}
-use Rattle.soap_profile.specs.Payload.{height, IsClosedContent}
-use Rattle.soap_profile.specs.Tree.{Element, Parts, none, child, name_of, children_of}
-use Rattle.soap_profile.specs.declared.name.Expanded.{Expanded}
+use Rattle.soap_document.specs.Profile.Payload.{height, IsClosedContent}
+use Rattle.soap_document.specs.Profile.Tree.{Element, Parts, none, child, name_of, children_of}
+use Rattle.soap_document.specs.declared.profile.name.Expanded.{Expanded}
 use Rattle.soap_envelope.specs.Envelope.{Envelope, name_in}
 use Rattle.soap_writer.specs.Writable.{IsNameWritable, IsWritable}
 use Rattle.soap_frame.specs.Framed.{Block, sorted_scope, framed_envelope}

@@ -6,9 +6,9 @@ use Rattle.std.specs.List.{flat_map}
 use Rattle.std.specs.Option.{option_to_list}
 use Rattle.std.specs.Str.{bytes_eq}
 use Rattle.soap_lex.specs.Tests.{is_nil}
-use Rattle.soap_profile.specs.Namespaces.{xml_space}
-use Rattle.soap_profile.specs.Tree.{Element}
-use Rattle.soap_profile.specs.declared.name.Expanded.{Expanded}
+use Rattle.soap_document.specs.Profile.Namespaces.{xml_space}
+use Rattle.soap_document.specs.Profile.Tree.{Element}
+use Rattle.soap_document.specs.declared.profile.name.Expanded.{Expanded}
 use Rattle.soap_writer.specs.ElementText.{written_name}
 use Rattle.soap_writer.specs.Frame.{of_soap}
 use Rattle.soap_frame.specs.Framed.{framed_text}

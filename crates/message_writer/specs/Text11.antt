@@ -3,7 +3,7 @@ use Rattle.std.specs.Prelude.{◌≡◌, ℕ, List, [], ◌∷◌, ◌++◌, Boo
 use Rattle.std.specs.Prelude.{codes, map, option_map, decimal}
 use Rattle.std.specs.Option.{option_to_list}
 use Rattle.soap_envelope.specs.Soap.{soap11_space}
-use Rattle.soap_profile.specs.Tree.{Parts, none, child}
+use Rattle.soap_document.specs.Profile.Tree.{Parts, none, child}
 use Rattle.soap_frame.specs.Framed.{framed_text}
 use Rattle.soap_writer.specs.Frame.{of_soap}
 use Rattle.soap_nodes.specs.Node.{prefixed, Node, full, nothing, more, leaf, node_text, node_tree}

@@ -19,7 +19,7 @@ use crate::trees::{ack_tree, ident_tree, max_tree};
 use rm_base::{Blob, Ident, Memory, copy_optional_uri, uri_of};
 use rm_elements::AckBlock;
 use rm_message::{Acks, Body, FaultBody, FaultKind, Idents, Message, Names, Refusal};
-use soap_profile::{Elements, Name, Shared};
+use soap_document::profile::{Elements, Name, Shared};
 use std::alloc::Global;
 use wsa_headers::Addressing;
 

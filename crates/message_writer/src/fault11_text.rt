@@ -24,7 +24,7 @@ use rm_base::{Blob, Memory};
 use rm_elements::MESSAGING;
 use rm_message::{FaultBody, FaultCode};
 use soap_nodes::{push_begin, push_close, push_start};
-use soap_profile::{Elements, Name};
+use soap_document::profile::{Elements, Name};
 use soap_writer::{push_bytes, push_text};
 use std::alloc::Global;
 

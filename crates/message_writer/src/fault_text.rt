@@ -1,6 +1,6 @@
 //! Faults to bytes: SOAP 1.2 Part 1, section 5.4. Each writer of a piece appends it, up to a want of memory.
 ghost use Rattle.std.specs.Prelude.{◌≡◌, ◌++◌, [], ◌∷◌, OnOk, codes, map, false};
-ghost use Rattle.soap_profile.specs.View.{element_view};
+ghost use Rattle.soap_document.specs.Profile.View.{element_view};
 ghost use Rattle.soap_nodes.specs.Node.{
   tag_name,
   begin_text,
@@ -30,7 +30,7 @@ use crate::tag::Tag;
 use rm_base::{Blob, Memory};
 use rm_message::{FaultBody, FaultCode};
 use soap_nodes::{push_begin, push_close, push_leaf, push_start};
-use soap_profile::{Element, Elements, Name};
+use soap_document::profile::{Element, Elements, Name};
 use soap_writer::{push_bytes, push_text, write_element};
 use std::alloc::Global;
 

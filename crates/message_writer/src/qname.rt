@@ -5,7 +5,7 @@ ghost use Rattle.message_writer.specs.Text.{qname as qname_text, qname_notes};
 
 use rm_base::Memory;
 use soap_nodes::push_declaration;
-use soap_profile::Name;
+use soap_document::profile::Name;
 use soap_writer::push_bytes;
 use std::alloc::Global;
 

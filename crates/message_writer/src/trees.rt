@@ -1,9 +1,9 @@
 //! The elements that stand in the Detail of a fault, as trees: WS-ReliableMessaging 1.2, sections 3.4, 3.9 and 4.5.
 ghost use Rattle.std.specs.Prelude.{◌≡◌, ◌++◌, [], ◌∷◌, IfOk, OnOk, decimal};
-ghost use Rattle.soap_profile.specs.Items.{a_text, a_child, an_attribute, listed};
+ghost use Rattle.soap_document.specs.Profile.Items.{a_text, a_child, an_attribute, listed};
 ghost use Rattle.soap_envelope.specs.Soap.{soap_space};
-ghost use Rattle.soap_profile.specs.Tree.{element};
-ghost use Rattle.soap_profile.specs.View.{
+ghost use Rattle.soap_document.specs.Profile.Tree.{element};
+ghost use Rattle.soap_document.specs.Profile.View.{
   element_view,
   items_view,
   decls_view,
@@ -19,7 +19,7 @@ use rm_sides::ranges::Range;
 use itoa::Buffer;
 use rm_base::{Bytes, Ident, Memory};
 use rm_elements::{AckBlock, AckKind, MESSAGING};
-use soap_profile::{Attr, Element, Item, Name, Shared};
+use soap_document::profile::{Attr, Element, Item, Name, Shared};
 use std::alloc::Global;
 
 // An element of the protocol with these items.

@@ -24,7 +24,7 @@ use rm_elements::{
 use rm_message::{Body, FaultBody, Message};
 use soap_frame::{begin_body, begin_envelope, end_envelope};
 use soap_nodes::{push_attribute, push_begin};
-use soap_profile::Name;
+use soap_document::profile::Name;
 use soap_writer::push_bytes;
 use std::alloc::Global;
 use wsa_headers::write_addressing;

@@ -31,7 +31,7 @@ use record_batch::Record;
 use rm_base::limits::{MOST_UNACKED, PAYLOAD_BYTES, WINDOW};
 use rm_base::{Blob, MAX_NUMBER, Memory};
 use rm_message::Message;
-use soap_profile::check_payload;
+use soap_document::profile::check_payload;
 use std::alloc::Global;
 use tables_ahead::Known;
 

@@ -8,9 +8,9 @@ use Rattle.soap_document.specs.Inside.{IsInside, around, root_around}
 use Rattle.soap_document.specs.Machine.{start, run, root_of}
 use Rattle.soap_document.specs.Tree as written
 use Rattle.soap_document.specs.declared.attribute.WrittenAttribute.{WrittenAttribute}
-use Rattle.soap_profile.specs.Namespaces.{resolve_parts}
-use Rattle.soap_profile.specs.Payload.{depth, is_white_outside, IsClosedContent}
-use Rattle.soap_profile.specs.Tree.{Parts}
+use Rattle.soap_document.specs.Profile.Namespaces.{resolve_parts}
+use Rattle.soap_document.specs.Profile.Payload.{depth, is_white_outside, IsClosedContent}
+use Rattle.soap_document.specs.Profile.Tree.{Parts}
 
 -- what is known of documents
 pub record Documents : Type 0 where

@@ -25,9 +25,9 @@ use Rattle.rm_sides.specs.declared.source.phase.OutPhase.{OutPhase}
 use Rattle.rm_sides.specs.declared.source.phase.OutPhase.TheVariants as out
 use Rattle.soap_lex.specs.Facts.{equal}
 use Rattle.soap_frame.specs.Framed.{sorted_scope}
-use Rattle.soap_profile.specs.Payload.{IsClosedContent}
+use Rattle.soap_document.specs.Profile.Payload.{IsClosedContent}
 use Rattle.soap_envelope.specs.Soap.{soap_space}
-use Rattle.soap_profile.specs.Tree.{Element}
+use Rattle.soap_document.specs.Profile.Tree.{Element}
 use Rattle.soap_values.specs.TextLaws.{literal_is_text}
 use Rattle.wsa_headers.specs.Writable.{IsEprWritable, IsAddressingWritable, IsParamWritable}
 use Rattle.wsa_headers.specs.declared.addressing.Addressing.{Addressing}

@@ -1,7 +1,7 @@
 -- Terms of a node's own: what the definitions take from the layers that write, read and date is what these layers do.
 use Rattle.std.specs.Prelude.{◌≡◌, ℕ, ◌<◌, ◌≤◌, Bool, List, length, Option, None, Result, IsTrue, ◌↔◌}
 use Rattle.rm_base.specs.Limits as limits
-use Rattle.soap_profile.specs.Payload.{IsClosedContent}
+use Rattle.soap_document.specs.Profile.Payload.{IsClosedContent}
 use Rattle.rm_elements.specs.Deadline.{IsDeadline}
 use Rattle.rm_elements.specs.declared.header.AckBlock.{AckBlock}
 use Rattle.rm_base.specs.declared.lapse.Lapse.{Lapse}

@@ -1,7 +1,7 @@
 -- The text of an Identifier, as the readers of elements have it.
 use Rattle.std.proofs.Common.{◌≡◌, cond, refl}
 use Rattle.std.specs.Prelude.{None}
-use Rattle.soap_profile.specs.Tree.{Element, element}
+use Rattle.soap_document.specs.Profile.Tree.{Element, element}
 use Rattle.soap_values.specs.Values.{trimmed_text}
 use Rattle.rm_protocol.specs.Detail.{ident_of}
 use Rattle.node_messages.specs.Details.{is_identifier}

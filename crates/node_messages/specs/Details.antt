@@ -1,7 +1,7 @@
 -- The elements of a Detail that name a sequence: WS-ReliableMessaging 1.2, section 4.
 use Rattle.std.specs.Prelude.{Bool, ◌&&◌, codes}
 use Rattle.std.specs.Str.{bytes_eq}
-use Rattle.soap_profile.specs.Tree.{Element, name_of}
+use Rattle.soap_document.specs.Profile.Tree.{Element, name_of}
 use Rattle.soap_writer.specs.Frame.{messaging_space}
 
 -- the element is an Identifier

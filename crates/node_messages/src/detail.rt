@@ -1,12 +1,12 @@
 //! The sequence that a fault's Detail names: WS-ReliableMessaging 1.2, section 4.
 ghost use Rattle.std.specs.Prelude.{◌≡◌, IfOk};
 ghost use Rattle.rm_protocol.specs.Detail.{ident_of as ident_in};
-ghost use Rattle.soap_profile.specs.View.{element_view};
+ghost use Rattle.soap_document.specs.Profile.View.{element_view};
 ghost use Rattle.node_messages.specs.Details.{is_identifier as is_identifier_in};
 
 use rm_base::{Blob, Memory};
 use rm_elements::MESSAGING;
-use soap_profile::Element;
+use soap_document::profile::Element;
 use soap_values::{Flaw, read_trimmed};
 use std::alloc::Global;
 

@@ -10,7 +10,7 @@ ghost use Rattle.sequence_table.specs.Find.{plain_endpoint as plain_endpoint_of}
 
 use crate::address::anonymous_bytes;
 use rm_base::{Memory, Uri, uri_of};
-use soap_profile::Elements;
+use soap_document::profile::Elements;
 use std::alloc::Global;
 use wsa_headers::{Addressing, Epr};
 

@@ -7,10 +7,10 @@ use Rattle.std.proofs.lemmas.Bool.{and_parts, and_from, le-leb, leb-true, leb-fa
 use Rattle.std.proofs.lemmas.List.Sums.{sum_by-cons}
 use Rattle.rm_base.specs.Limits.{parameter_bytes}
 use Rattle.rm_base.specs.declared.failures.Memory.{Memory}
-use Rattle.soap_profile.specs.Document.{Document}
-use Rattle.soap_profile.specs.Namespaces.{is_new_name}
-use Rattle.soap_profile.specs.Payload.{height}
-use Rattle.soap_profile.specs.Tree.{Element, attrs_of}
+use Rattle.soap_document.specs.Profile.Document.{Document}
+use Rattle.soap_document.specs.Profile.Namespaces.{is_new_name}
+use Rattle.soap_document.specs.Profile.Payload.{height}
+use Rattle.soap_document.specs.Profile.Tree.{Element, attrs_of}
 use Rattle.soap_writer.specs.ElementText.{element_text}
 use Rattle.soap_writer.specs.Writable.{IsWritable}
 use Rattle.soap_stripped.specs.Resolved.{IsResolved}

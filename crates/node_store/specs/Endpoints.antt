@@ -2,9 +2,9 @@
 use Rattle.std.specs.Prelude.{Bool, ◌&&◌, nat_le, List}
 use Rattle.std.specs.List.{list_all}
 use Rattle.rm_base.specs.Limits as limits
-use Rattle.soap_profile.specs.Namespaces.{is_new_name}
-use Rattle.soap_profile.specs.Payload.{height}
-use Rattle.soap_profile.specs.Tree.{Element, attrs_of}
+use Rattle.soap_document.specs.Profile.Namespaces.{is_new_name}
+use Rattle.soap_document.specs.Profile.Payload.{height}
+use Rattle.soap_document.specs.Profile.Tree.{Element, attrs_of}
 use Rattle.wsa_headers.specs.Endpoint.{mark_name, params_length}
 
 -- a parameter has no mark, and at most 90 elements in one another

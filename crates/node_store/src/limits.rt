@@ -2,7 +2,7 @@
 ghost use Rattle.std.specs.Prelude.{◌↔◌, IfOk, IfSome, IsTrue, map};
 ghost use Rattle.std.specs.List.{AllByRecursion};
 ghost use Rattle.rm_elements.specs.Writable.{IsLapseWritable};
-ghost use Rattle.soap_profile.specs.Payload.{IsClosedContent};
+ghost use Rattle.soap_document.specs.Profile.Payload.{IsClosedContent};
 ghost use Rattle.record_batch.specs.Fact.{fact_of};
 ghost use Rattle.record_batch.specs.Writable.{IsEndpointWritable, IsPeerOfferWritable, IsWritable};
 ghost use Rattle.wsa_headers.specs.Writable.{IsEprWritable};
@@ -12,7 +12,7 @@ use crate::endpoints::is_endpoint_kept;
 use record_batch::{PeerOffer, Record};
 use rm_base::{Blob, Lapse, Memory};
 use rm_elements::duration::{MOST_MONTHS, MOST_MS};
-use soap_profile::check_payload;
+use soap_document::profile::check_payload;
 use std::alloc::Global;
 use wsa_headers::Epr;
 

@@ -53,7 +53,7 @@ pub struct Store {
 
 impl Model for Store {
     ghost use Rattle.std.specs.Coded.{codes};
-    ghost use Rattle.soap_profile.specs.TreeCode.{tree_code};
+    ghost use Rattle.soap_document.specs.Profile.TreeCode.{tree_code};
     ghost use Rattle.node_store.specs.Stored.{Stored};
 
     ghost Value = { Stored };

@@ -65,7 +65,7 @@ pub struct Tables {
 
 impl Model for Tables {
     ghost use Rattle.std.specs.Coded.{codes};
-    ghost use Rattle.soap_profile.specs.TreeCode.{tree_code};
+    ghost use Rattle.soap_document.specs.Profile.TreeCode.{tree_code};
     ghost use Rattle.std.specs.Prelude.{◌-◌, vec_len, vec_capacity};
     ghost use Rattle.node_tables.specs.Kept.{Tabled, IsSound, records_in, table_in};
     ghost use Rattle.node_tables.specs.Room.{all_spares, starts};

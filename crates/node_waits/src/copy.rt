@@ -7,7 +7,7 @@ use rm_elements::{
     CreateResponse, CreateSequence, Finish, Lifecycle, MakeConnection, Offer, SeqHeader, copy_block,
 };
 use rm_message::{Acks, Body, FaultBody, Idents, Message, Names};
-use soap_profile::Name;
+use soap_document::profile::Name;
 use std::alloc::Global;
 use wsa_headers::{Addressing, copy_reference};
 

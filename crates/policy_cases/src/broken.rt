@@ -1,6 +1,6 @@
 //! Bytes that are no document.
 use rm_policy::{PolicyError, read_assertion};
-use soap_profile::EnvelopeError;
+use soap_document::profile::EnvelopeError;
 use std::alloc::Global;
 
 // The reason that bytes are no document.

@@ -1,6 +1,6 @@
 //! What lists of alternatives have in common that are no normal forms of policies within the limits.
 use rm_base::Memory;
-use soap_profile::{Name, Shared};
+use soap_document::profile::{Name, Shared};
 use std::alloc::Global;
 use wsp_alternatives::{Alternatives, Term, Terms, WspError, intersect};
 

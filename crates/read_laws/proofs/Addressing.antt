@@ -4,7 +4,7 @@ use Rattle.std.proofs.Common.{Err, codes, refl, ap, subst, arith}
 use Rattle.std.specs.Prelude.{IfSome}
 use Rattle.std.specs.List.{AllByRecursion, filter}
 use Rattle.rm_base.specs.Text.{IsText}
-use Rattle.soap_profile.specs.Tree.{Element}
+use Rattle.soap_document.specs.Profile.Tree.{Element}
 use Rattle.soap_stripped.specs.Resolved.{IsResolved}
 use Rattle.soap_values.specs.Outcome.{◌>>=◌, optional, each, if_present}
 use Rattle.soap_values.specs.TextLaws.{literal_is_text}

@@ -10,8 +10,8 @@ use Prim.Native.Nat.{zero}
 use Rattle.rm_base.specs.declared.message.Payload.{Payload}
 use Rattle.soap_lex.specs.Facts.{same}
 use Rattle.rm_base.specs.declared.message.Binding.{Binding}
-use Rattle.soap_profile.specs.Tree.{Element, Parts, name_of, parts_of, children_of}
-use Rattle.soap_profile.specs.declared.name.Expanded.{Expanded}
+use Rattle.soap_document.specs.Profile.Tree.{Element, Parts, name_of, parts_of, children_of}
+use Rattle.soap_document.specs.declared.profile.name.Expanded.{Expanded}
 use Rattle.soap_stripped.specs.Resolved.{AreInForce, IsResolved}
 use Rattle.soap_values.specs.Children.{name_in, has_name}
 use Rattle.soap_values.specs.Outcome.{◌>>=◌, single}

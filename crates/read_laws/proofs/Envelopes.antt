@@ -5,9 +5,9 @@ use Rattle.std.specs.Prelude.{IfSome}
 use Rattle.std.proofs.lemmas.List.{append-nil}
 use Rattle.std.specs.List.{AllByRecursion}
 use Rattle.std.specs.Str.{bytes_eq}
-use Rattle.soap_profile.specs.Document.{Document}
-use Rattle.soap_profile.specs.Namespaces.{bound}
-use Rattle.soap_profile.specs.Tree.{Element, element, Parts, decls_of, children_of}
+use Rattle.soap_document.specs.Profile.Document.{Document}
+use Rattle.soap_document.specs.Profile.Namespaces.{bound}
+use Rattle.soap_document.specs.Profile.Tree.{Element, element, Parts, decls_of, children_of}
 use Rattle.rm_base.specs.declared.message.Binding.{Binding}
 use Rattle.soap_envelope.specs.Envelope.{name_in, IsSpaced, bare, spaced, IsBodyAlone, IsOutline, headless, headed}
 use Rattle.soap_envelope.specs.Envelope.{IsHeader, without, blocks, Envelope, IsEnvelope}

@@ -4,9 +4,9 @@ use Rattle.std.proofs.Common.{codes, refl, arith}
 use Rattle.std.specs.Prelude.{IfSome, IsSome}
 use Rattle.std.specs.List.{AllByRecursion}
 use Rattle.soap_lex.specs.Tests.{is_nil}
-use Rattle.soap_profile.specs.Tree.{Element, without_declarations, parts_of, children_of}
+use Rattle.soap_document.specs.Profile.Tree.{Element, without_declarations, parts_of, children_of}
 use Rattle.rm_base.specs.declared.message.Binding.{Binding}
-use Rattle.soap_profile.specs.declared.name.Expanded.{Expanded}
+use Rattle.soap_document.specs.declared.profile.name.Expanded.{Expanded}
 use Rattle.soap_writer.specs.Writable.{IsNameWritable}
 use Rattle.soap_writer.specs.Plain.{chars_from}
 use Rattle.soap_stripped.specs.Resolved.{AreInForce, IsResolved}

@@ -5,8 +5,8 @@ use Rattle.std.specs.Prelude.{IfSome}
 use Rattle.std.specs.List.{AllByRecursion}
 use Rattle.soap_envelope.specs.Soap.{is_soap11}
 use Rattle.rm_base.specs.declared.message.Binding.{Binding}
-use Rattle.soap_profile.specs.Tree.{Element, parts_of, children_of}
-use Rattle.soap_profile.specs.declared.name.Expanded.{Expanded}
+use Rattle.soap_document.specs.Profile.Tree.{Element, parts_of, children_of}
+use Rattle.soap_document.specs.declared.profile.name.Expanded.{Expanded}
 use Rattle.soap_writer.specs.Writable.{IsNameWritable}
 use Rattle.soap_stripped.specs.Resolved.{AreInForce, IsResolved}
 use Rattle.soap_stripped.specs.ResolvedLaws.{children_resolved}

@@ -5,8 +5,8 @@ use Rattle.std.specs.Prelude.{is_some}
 use Rattle.std.specs.List.{AllByRecursion}
 use Rattle.std.proofs.lemmas.Bool.{ltb-false, eqb-false}
 use Rattle.rm_base.specs.Text.{IsText}
-use Rattle.soap_profile.specs.Tree.{Element, Parts, name_of, attrs_of, parts_of}
-use Rattle.soap_profile.specs.declared.tree.Attr.{Attr}
+use Rattle.soap_document.specs.Profile.Tree.{Element, Parts, name_of, attrs_of, parts_of}
+use Rattle.soap_document.specs.declared.profile.tree.Attr.{Attr}
 use Rattle.soap_values.specs.Children.{name_in, children_named, value_among}
 use Rattle.soap_values.specs.Outcome.{◌>>=◌, optional, single, each}
 use Rattle.soap_values.specs.Values.{trimmed_text, whole_number}

@@ -6,7 +6,7 @@ use Rattle.std.specs.List.{AllByRecursion}
 use Rattle.std.proofs.lemmas.Bool.{and_parts, leb-true}
 use Rattle.rm_base.specs.Text.{IsText}
 use Rattle.rm_base.specs.declared.message.Behaviour.{Behaviour}
-use Rattle.soap_profile.specs.Tree.{Element, Parts, name_of, parts_of, children_of}
+use Rattle.soap_document.specs.Profile.Tree.{Element, Parts, name_of, parts_of, children_of}
 use Rattle.soap_stripped.specs.Resolved.{IsResolved}
 use Rattle.soap_stripped.specs.ResolvedLaws.{children_resolved}
 use Rattle.soap_values.specs.Children.{has_name, children_named}

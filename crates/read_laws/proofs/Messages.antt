@@ -6,9 +6,9 @@ use Rattle.std.specs.List.{AllByRecursion, filter, flat_map, list_any}
 use Rattle.std.proofs.lemmas.Bool.{or_parts}
 use Rattle.rm_base.specs.Text.{IsText}
 use Rattle.soap_lex.specs.Facts.{equal}
-use Rattle.soap_profile.specs.Tree.{Element, element, name_of, attrs_of}
+use Rattle.soap_document.specs.Profile.Tree.{Element, element, name_of, attrs_of}
 use Rattle.rm_base.specs.declared.message.Binding.{Binding}
-use Rattle.soap_profile.specs.declared.name.Expanded.{Expanded}
+use Rattle.soap_document.specs.declared.profile.name.Expanded.{Expanded}
 use Rattle.soap_writer.specs.Writable.{IsNameWritable}
 use Rattle.soap_envelope.specs.Envelope.{Envelope}
 use Rattle.soap_stripped.specs.Resolved.{AreInForce, IsResolved}

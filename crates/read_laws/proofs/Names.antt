@@ -11,10 +11,10 @@ use Rattle.soap_lex.specs.Facts.{all_from_passes}
 use Rattle.soap_document.specs.Cuts.{cut_from}
 use Rattle.soap_document.specs.Grammar.{IsQName, unprefixed, prefixed}
 use Rattle.soap_document.specs.Tokens.{cut, starts_name, is_name, is_qname}
-use Rattle.soap_profile.specs.Namespaces.{split, element_name}
-use Rattle.soap_profile.specs.Tree.{Element, decls_of}
+use Rattle.soap_document.specs.Profile.Namespaces.{split, element_name}
+use Rattle.soap_document.specs.Profile.Tree.{Element, decls_of}
 use Rattle.rm_base.specs.declared.message.Binding.{Binding}
-use Rattle.soap_profile.specs.declared.name.Expanded.{Expanded}
+use Rattle.soap_document.specs.declared.profile.name.Expanded.{Expanded}
 use Rattle.soap_writer.specs.Writable.{IsNameWritable}
 use Rattle.soap_stripped.specs.Resolved.{IsBinding, AreInForce}
 use Rattle.soap_stripped.specs.ResolvedLaws.{more_in_force}

@@ -4,11 +4,12 @@ use Rattle.std.proofs.Common.{◌∷◌, length, Option, Some, None, map, refl, 
 use Rattle.std.specs.List.{AllByRecursion, filter, list_all}
 use Rattle.std.proofs.lemmas.Bool.{and_parts, and_from, cond_both, leb-true}
 use Rattle.rm_base.specs.Text.{IsText}
-use Rattle.soap_profile.specs.Namespaces.{is_new_name, is_other, are_distinct_names}
-use Rattle.soap_profile.specs.Payload.{height, depth}
-use Rattle.soap_profile.specs.Tree.{Element, element, Parts, none, text, child, without_declarations, parts_without}
-use Rattle.soap_profile.specs.Tree.{attrs_of, parts_of, children_of}
-use Rattle.soap_profile.specs.declared.tree.Attr.{Attr}
+use Rattle.soap_document.specs.Profile.Namespaces.{is_new_name, is_other, are_distinct_names}
+use Rattle.soap_document.specs.Profile.Payload.{height, depth}
+use Rattle.soap_document.specs.Profile.Tree.{Element, element, Parts, none, text, child, without_declarations}
+use Rattle.soap_document.specs.Profile.Tree.{parts_without}
+use Rattle.soap_document.specs.Profile.Tree.{attrs_of, parts_of, children_of}
+use Rattle.soap_document.specs.declared.profile.tree.Attr.{Attr}
 use Rattle.soap_writer.specs.Writable.{IsAttrWritable, IsWritable}
 use Rattle.soap_stripped.specs.Resolved.{IsResolved}
 use Rattle.soap_stripped.specs.ResolvedLaws.{children_resolved}

@@ -4,9 +4,9 @@ use Rattle.std.proofs.Common.{None, Result, Ok, Err, refl, sym, subst, arith}
 use Rattle.std.specs.List.{AllByRecursion}
 use Rattle.rm_base.specs.declared.message.Payload.{Payload}
 use Rattle.soap_document.specs.Grammar.{max_depth}
-use Rattle.soap_profile.specs.Payload.{depth as nested}
-use Rattle.soap_profile.specs.Tree.{Element, Parts, none, text, child, children_of, decls_of}
-use Rattle.soap_profile.specs.declared.name.Expanded.{Expanded}
+use Rattle.soap_document.specs.Profile.Payload.{depth as nested}
+use Rattle.soap_document.specs.Profile.Tree.{Element, Parts, none, text, child, children_of, decls_of}
+use Rattle.soap_document.specs.declared.profile.name.Expanded.{Expanded}
 use Rattle.soap_envelope.specs.Envelope.{Envelope, IsEnvelope, StandsFor}
 use Rattle.soap_stripped.specs.Resolved.{IsResolved}
 use Rattle.soap_values.specs.Children.{has_name}

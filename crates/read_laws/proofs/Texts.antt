@@ -2,7 +2,7 @@
 use Rattle.std.proofs.Common.{◌≡◌, ℕ, Bool, true, false, if◌then◌else◌, List, Option, Some, None, refl, subst}
 use Rattle.rm_base.specs.Text.{IsText, is_text}
 use Rattle.rm_base.specs.TextLemmas.{is_text-IsText}
-use Rattle.soap_profile.specs.Tree.{Element}
+use Rattle.soap_document.specs.Profile.Tree.{Element}
 use Rattle.soap_values.specs.Outcome.{◌>>=◌}
 use Rattle.soap_values.specs.Values.{trimmed_text, text_within}
 use Rattle.wsa_headers.specs.Endpoint.{uri_of}

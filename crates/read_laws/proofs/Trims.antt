@@ -8,7 +8,7 @@ use Rattle.std.proofs.lemmas.Str.{encode_ascii, cons_from_encodes}
 use Rattle.xml_chars.specs.Classes.{is_space}
 use Rattle.soap_lex.specs.Characters.{IsChars}
 use Rattle.soap_lex.specs.Tests.{is_nil}
-use Rattle.soap_profile.specs.Tree.{Element, element, Parts, none, text, child, parts_without, parts_of}
+use Rattle.soap_document.specs.Profile.Tree.{Element, element, Parts, none, text, child, parts_without, parts_of}
 use Rattle.soap_writer.specs.Writable.{ArePartsWritable}
 use Rattle.soap_stripped.specs.CharLaws.{AreChars, AreHigh, chars_nil, chars_append, one_char, ascii_char, high_bytes}
 use Rattle.soap_stripped.specs.Resolved.{IsResolved}

@@ -3,9 +3,9 @@ use Rattle.std.specs.Prelude.{◌≡◌, ◌≤◌, ℕ, ◌+◌, List, Some}
 use Rattle.rm_base.specs.declared.message.Binding.{Binding}
 use Rattle.soap_document.specs.Grammar.{IsContent, max_depth}
 use Rattle.soap_document.specs.Tree as written
-use Rattle.soap_profile.specs.Namespaces.{resolve_parts}
-use Rattle.soap_profile.specs.Payload.{depth as nested}
-use Rattle.soap_profile.specs.Tree.{Parts}
+use Rattle.soap_document.specs.Profile.Namespaces.{resolve_parts}
+use Rattle.soap_document.specs.Profile.Payload.{depth as nested}
+use Rattle.soap_document.specs.Profile.Tree.{Parts}
 use Rattle.soap_envelope.specs.Scope.{IsScope}
 use Rattle.soap_stripped.specs.Resolved.{AreInForce}
 

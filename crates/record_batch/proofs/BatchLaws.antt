@@ -10,7 +10,7 @@ use Rattle.rm_base.specs.declared.message.Binding.{Binding}
 use Rattle.rm_base.specs.declared.message.Cause.{Cause}
 use Rattle.rm_base.specs.declared.message.Payload.{Payload}
 use Rattle.rm_base.specs.declared.lapse.Lapse.{Lapse}
-use Rattle.soap_profile.specs.Tree.{Element}
+use Rattle.soap_document.specs.Profile.Tree.{Element}
 use Rattle.wsa_headers.specs.declared.endpoint.Epr.{Epr}
 use Rattle.record_batch.specs.declared.record.OwnOffer.{OwnOffer}
 use Rattle.record_batch.specs.declared.record.PeerOffer.{PeerOffer}

@@ -18,9 +18,9 @@ use Rattle.rm_base.specs.declared.message.Cause.TheVariants.{Peer, Operator, Exp
 use Rattle.soap_document.specs.Grammar.{IsDocument}
 use Rattle.soap_document.specs.Machine.{run, start, root_of}
 use Rattle.soap_document.specs.Tree as raw
-use Rattle.soap_profile.specs.Document.{Document, IsLongestText}
-use Rattle.soap_profile.specs.Namespaces.{resolve}
-use Rattle.soap_profile.specs.Tree.{Element, without_declarations}
+use Rattle.soap_document.specs.Profile.Document.{Document, IsLongestText}
+use Rattle.soap_document.specs.Profile.Namespaces.{resolve}
+use Rattle.soap_document.specs.Profile.Tree.{Element, without_declarations}
 use Rattle.soap_values.specs.Outcome.{◌>>=◌}
 use Rattle.soap_values.specs.Values.{text_within}
 use Rattle.soap_writer.specs.ElementText.{element_text}

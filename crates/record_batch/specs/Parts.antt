@@ -13,8 +13,8 @@ use Rattle.rm_base.specs.declared.message.Cause.TheVariants.{Peer, Operator, Exp
 use Rattle.rm_base.specs.declared.message.Payload.{Payload}
 use Rattle.rm_base.specs.declared.lapse.Lapse.{Lapse}
 use Rattle.soap_document.specs.Machine.{run, start, root_of}
-use Rattle.soap_profile.specs.Namespaces.{resolve}
-use Rattle.soap_profile.specs.Tree.{Element, without_declarations}
+use Rattle.soap_document.specs.Profile.Namespaces.{resolve}
+use Rattle.soap_document.specs.Profile.Tree.{Element, without_declarations}
 use Rattle.soap_values.specs.Outcome.{◌>>=◌}
 use Rattle.soap_values.specs.Values.{text_within}
 use Rattle.soap_writer.specs.ElementText.{element_text}

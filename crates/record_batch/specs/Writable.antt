@@ -8,8 +8,8 @@ use Rattle.rm_base.specs.Text.{IsText}
 use Rattle.rm_base.specs.declared.message.Binding.{Binding}
 use Rattle.rm_base.specs.declared.message.Payload.{Payload}
 use Rattle.rm_base.specs.declared.lapse.Lapse.{Lapse}
-use Rattle.soap_profile.specs.Document.{Document}
-use Rattle.soap_profile.specs.Tree.{Element, without_declarations}
+use Rattle.soap_document.specs.Profile.Document.{Document}
+use Rattle.soap_document.specs.Profile.Tree.{Element, without_declarations}
 use Rattle.soap_writer.specs.ElementText.{element_text}
 use Rattle.wsa_headers.specs.declared.endpoint.Epr.{Epr}
 use Rattle.record_batch.specs.declared.record.OwnOffer.{OwnOffer}

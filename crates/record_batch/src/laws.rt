@@ -2,8 +2,8 @@
 ghost use Rattle.std.specs.Prelude.{◌≡◌, ◌≤◌, ℕ, List, Some, length, false};
 ghost use Rattle.rm_base.specs.Limits.{envelope_bytes};
 ghost use Rattle.soap_document.specs.Grammar.{max_depth};
-ghost use Rattle.soap_profile.specs.Payload.{height};
-ghost use Rattle.soap_profile.specs.Tree.{Element};
+ghost use Rattle.soap_document.specs.Profile.Payload.{height};
+ghost use Rattle.soap_document.specs.Profile.Tree.{Element};
 ghost use Rattle.soap_writer.specs.ElementText.{element_text};
 ghost use Rattle.soap_writer.specs.Writable.{IsWritable as IsElementWritable};
 ghost use Rattle.record_batch.specs.Batch.{batch_at, batch_text};

@@ -1,7 +1,7 @@
 //! What records hold, from the front of bytes: a value, and the bytes behind it.
 ghost use Rattle.std.specs.Prelude.{◌≡◌, option_map, false, IfOk};
 ghost use Rattle.std.specs.Str.{bytes_eq};
-ghost use Rattle.soap_profile.specs.View.{element_view};
+ghost use Rattle.soap_document.specs.Profile.View.{element_view};
 ghost use Rattle.soap_values.specs.Outcome.{Gives};
 ghost use Rattle.soap_writer.specs.ElementText.{element_text};
 ghost use Rattle.record_batch.specs.Format.{first_byte, number32, number64, text, optional, read_items};
@@ -36,7 +36,7 @@ use rm_base::{
     Uri,
 };
 use soap_document::laws::{document_is_read, document_is_utf8};
-use soap_profile::{Element, Elements, EnvelopeError, read_element, strip};
+use soap_document::profile::{Element, Elements, EnvelopeError, read_element, strip};
 use soap_values::{Flaw, read_ident, read_uri};
 use soap_writer::write_element;
 use std::alloc::Global;

@@ -1,7 +1,7 @@
 //! What records hold, to bytes. Each writer appends its piece, up to a want of memory.
 ghost use Rattle.std.specs.Prelude.{◌≡◌, ◌++◌, map, OnOk, IfSome};
 ghost use Rattle.std.specs.List.{flat_map, AllByRecursion};
-ghost use Rattle.soap_profile.specs.View.{element_view};
+ghost use Rattle.soap_document.specs.Profile.View.{element_view};
 ghost use Rattle.record_batch.specs.Format.{number32, number64, text, optional};
 ghost use Rattle.record_batch.specs.Parts.{
   behaviour_number,
@@ -29,7 +29,7 @@ ghost use Rattle.record_batch.specs.Writable.{
 use crate::record::{OwnOffer, PeerOffer, Via};
 use rm_sides::ranges::{Range, RangeSet};
 use rm_base::{Behaviour, Binding, Blob, Cause, Lapse, Memory, Payload};
-use soap_profile::Element;
+use soap_document::profile::Element;
 use soap_writer::write_element;
 use std::alloc::Global;
 use wsa_headers::Epr;

@@ -3,7 +3,7 @@ use Rattle.std.proofs.Common.{◌≡◌, ℕ, ◌≤◌, List, length, Option, N
 use Rattle.std.proofs.Common.{sym, ap, ◌∙◌, append-nil, arith}
 use Rattle.std.specs.Prelude.{IfSome}
 use Rattle.rm_base.specs.Outside.{AppendsFront}
-use Rattle.soap_profile.specs.declared.error.EnvelopeError.TheVariants as documents
+use Rattle.soap_document.specs.declared.profile.error.EnvelopeError.TheVariants as documents
 use Rattle.wsp_alternatives.specs.Finds.{FindsNormal, FindsCommon}
 use Rattle.wsp_alternatives.specs.declared.error.WspError.{WspError}
 use Rattle.wsp_alternatives.specs.declared.error.WspError.TheVariants as errors

@@ -2,7 +2,7 @@
 use Rattle.std.proofs.Common.{ℕ, List, Result}
 use Rattle.rm_base.specs.Outside.{Stream}
 use Rattle.soap_envelope.specs.declared.envelope.Envelope.{Envelope}
-use Rattle.soap_profile.specs.declared.error.EnvelopeError.{EnvelopeError}
+use Rattle.soap_document.specs.declared.profile.error.EnvelopeError.{EnvelopeError}
 use Rattle.soap_pieces.specs.Answer.{Reads}
 use Rattle.soap_pieces.specs.Source.{HasTakenAll}
 use Rattle.soap_pieces.specs.declared.reader.EnvelopeReader.{EnvelopeReader}

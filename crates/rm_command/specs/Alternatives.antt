@@ -2,7 +2,7 @@
 use Rattle.std.specs.Prelude.{◌≡◌, ℕ, List, Option, None, Some, Result, Ok, Err}
 use Rattle.rm_base.specs.Limits as limits
 use Rattle.rm_report.specs.Exits as exits
-use Rattle.soap_profile.specs.declared.error.EnvelopeError.TheVariants as documents
+use Rattle.soap_document.specs.declared.profile.error.EnvelopeError.TheVariants as documents
 use Rattle.wsp_alternatives.specs.Finds.{FindsNormal, FindsCommon}
 use Rattle.wsp_alternatives.specs.Texts.{normal_text}
 use Rattle.wsp_alternatives.specs.declared.error.WspError.{WspError}

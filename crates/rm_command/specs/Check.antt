@@ -4,7 +4,7 @@ use Rattle.rm_base.specs.Limits as limits
 use Rattle.rm_report.specs.Exits as exits
 use Rattle.soap_envelope.specs.Soap.{soap_space}
 use Rattle.soap_envelope.specs.declared.envelope.Envelope.{Envelope}
-use Rattle.soap_profile.specs.declared.error.EnvelopeError.{EnvelopeError}
+use Rattle.soap_document.specs.declared.profile.error.EnvelopeError.{EnvelopeError}
 use Rattle.rm_message.specs.declared.message.Message.{Message}
 use Rattle.rm_message.specs.declared.refusal.FaultKind.{FaultKind}
 use Rattle.rm_message.specs.declared.refusal.FaultKind.TheVariants as kinds

@@ -3,8 +3,8 @@ use Rattle.std.specs.Prelude.{◌≡◌, ℕ, Bool, true, false, List, ◌++◌,
 use Rattle.std.specs.Str.{IsUtf8}
 use Rattle.rm_base.specs.Limits as limits
 use Rattle.rm_report.specs.Exits as exits
-use Rattle.soap_profile.specs.Document.{Document}
-use Rattle.soap_profile.specs.Tree.{Element}
+use Rattle.soap_document.specs.Profile.Document.{Document}
+use Rattle.soap_document.specs.Profile.Tree.{Element}
 use Rattle.rm_policy.specs.Assertion.{is_granted}
 use Rattle.rm_policy.specs.Reading.{ReadsAs}
 use Rattle.rm_policy.specs.Texts.{assurance_word}

@@ -18,7 +18,7 @@ use crate::end::{End, Fault, refuse};
 use crate::filter::{NoText, read_input};
 use rm_base::limits::ENVELOPE_BYTES;
 use rm_base::{Memory, Sink, SinkError, Source};
-use soap_profile::EnvelopeError;
+use soap_document::profile::EnvelopeError;
 use std::alloc::Global;
 use wsp_alternatives::{Alternatives, WspError, find_common, find_normal, pieces_of, write_pieces};
 

@@ -11,7 +11,7 @@ use message_reader::decode_read;
 use rm_base::Blob;
 use rm_message::{DecodeError, FaultKind, Refusal};
 use soap_envelope::Envelope;
-use soap_profile::EnvelopeError;
+use soap_document::profile::EnvelopeError;
 use std::alloc::Global;
 
 /// What is printed of bytes of which a reader of envelopes answered this, where they spell a message.

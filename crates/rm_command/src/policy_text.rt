@@ -8,7 +8,7 @@ use crate::end::Fault;
 use crate::filter::NoText;
 use rm_base::{Blob, Memory};
 use rm_policy::{Assertion, PolicyError, grants, read_assertion};
-use soap_profile::EnvelopeError;
+use soap_document::profile::EnvelopeError;
 use std::alloc::Global;
 
 /// What is printed of bytes, where they are an assertion.

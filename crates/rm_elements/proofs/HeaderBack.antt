@@ -7,7 +7,7 @@ use Rattle.std.proofs.lemmas.List.{append-nil}
 use Rattle.std.proofs.lemmas.Bool.{le-ltb}
 use Rattle.std.proofs.lemmas.Bool.Decides.{nat_tests}
 use Rattle.rm_base.specs.Text.{IsText}
-use Rattle.soap_profile.specs.Tree.{Element, element, Parts, none, text, attrs_of, parts_of}
+use Rattle.soap_document.specs.Profile.Tree.{Element, element, Parts, none, text, attrs_of, parts_of}
 use Rattle.soap_nodes.specs.Node.{Tag as NodeTag, expanded_name, Node, Nodes, nothing, more, each_node}
 use Rattle.soap_nodes.specs.Node.{node_tree}
 use Rattle.soap_nodes.specs.Node.{nodes_tree}

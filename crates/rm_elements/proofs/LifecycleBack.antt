@@ -8,8 +8,8 @@ use Rattle.rm_base.specs.Text.{IsText}
 use Rattle.rm_base.specs.declared.message.Behaviour.{Behaviour}
 use Rattle.rm_base.specs.declared.message.Behaviour.TheVariants.{NoDiscard, EntireSequence, FollowingFirstGap}
 use Rattle.xml_chars.specs.Classes.{is_space}
-use Rattle.soap_profile.specs.Tree.{Element, element, Parts, none, text, parts_of}
-use Rattle.soap_profile.specs.declared.name.Expanded.{Expanded}
+use Rattle.soap_document.specs.Profile.Tree.{Element, element, Parts, none, text, parts_of}
+use Rattle.soap_document.specs.declared.profile.name.Expanded.{Expanded}
 use Rattle.soap_nodes.specs.Node.{Node, Nodes, nothing, more, leaf, node_tree, nodes_tree}
 use Rattle.soap_values.specs.Children.{is_same, has_name, children_named}
 use Rattle.soap_values.specs.Outcome.{◌>>=◌}

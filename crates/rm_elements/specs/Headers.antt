@@ -4,9 +4,9 @@ use Rattle.std.specs.Prelude.{Some, None, is_some, option_map, Result, Ok, Err, 
 use Rattle.std.specs.Str.{bytes_eq}
 use Rattle.rm_base.specs.Message.{max_number}
 use Rattle.soap_lex.specs.Tests.{is_nil}
-use Rattle.soap_profile.specs.Tree.{Element, Parts, name_of, attrs_of, parts_of}
-use Rattle.soap_profile.specs.declared.name.Expanded.{Expanded}
-use Rattle.soap_profile.specs.declared.tree.Attr.{Attr}
+use Rattle.soap_document.specs.Profile.Tree.{Element, Parts, name_of, attrs_of, parts_of}
+use Rattle.soap_document.specs.declared.profile.name.Expanded.{Expanded}
+use Rattle.soap_document.specs.declared.profile.tree.Attr.{Attr}
 use Rattle.soap_values.specs.Children.{name_in, is_same, children_named, value_among}
 use Rattle.soap_values.specs.Outcome.{◌>>=◌, optional, single, each}
 use Rattle.soap_values.specs.Values.{trimmed, trimmed_text, whole_number, is_true, text_within}

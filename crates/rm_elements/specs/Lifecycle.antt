@@ -2,8 +2,8 @@
 use Rattle.std.specs.Prelude.{ℕ, List, Bool, not, if◌then◌else◌, Option, Some, None, option_map, Result, Ok, codes}
 use Rattle.std.specs.List.{list_any}
 use Rattle.std.specs.Str.{bytes_eq}
-use Rattle.soap_profile.specs.Tree.{Element, Parts, name_of, parts_of, children_of}
-use Rattle.soap_profile.specs.declared.name.Expanded.{Expanded}
+use Rattle.soap_document.specs.Profile.Tree.{Element, Parts, name_of, parts_of, children_of}
+use Rattle.soap_document.specs.declared.profile.name.Expanded.{Expanded}
 use Rattle.soap_values.specs.Children.{is_same, has_name, children_named}
 use Rattle.soap_values.specs.Outcome.{◌>>=◌, optional, single, if_present}
 use Rattle.soap_values.specs.Values.{trimmed_text}

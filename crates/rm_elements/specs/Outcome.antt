@@ -1,6 +1,6 @@
 -- What the readers of elements answer, and the names that they read.
 use Rattle.std.specs.Prelude.{◌≡◌, ℕ, List, Option, Some, None, Result, Ok, Err}
-use Rattle.soap_profile.specs.declared.name.Expanded.{Expanded}
+use Rattle.soap_document.specs.declared.profile.name.Expanded.{Expanded}
 use Rattle.soap_writer.specs.Frame.{messaging_space, connection_space}
 use Rattle.soap_values.specs.Children.{name_in}
 use Rattle.rm_elements.specs.declared.error.ElementError.{ElementError}

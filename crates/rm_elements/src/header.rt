@@ -1,7 +1,7 @@
 //! Header blocks: WS-ReliableMessaging 1.2, sections 3.7 to 3.9, and WS-MakeConnection 1.1, section 3.
 ghost use Rattle.std.specs.Prelude.{◌≡◌, ◌-◌, ◌^◌, min, option_map};
 ghost use Rattle.soap_lex.specs.Tests.{is_nil};
-ghost use Rattle.soap_profile.specs.View.{element_view, attrs_view, parts_view};
+ghost use Rattle.soap_document.specs.Profile.View.{element_view, attrs_view, parts_view};
 ghost use Rattle.soap_values.specs.Outcome.{Gives, each};
 ghost use Rattle.soap_values.specs.Steps.{lent_trees};
 ghost use Rattle.rm_elements.specs.Steps.{capped};
@@ -22,7 +22,7 @@ ghost use Rattle.rm_elements.specs.Headers.{
 
 use rm_sides::ranges::Range;
 use rm_base::{Ident, Items, MAX_NUMBER, Numbers};
-use soap_profile::{Element, Item};
+use soap_document::profile::{Element, Item};
 use soap_values::{
     Flaw, find_all, find_optional, find_single, find_value, is_true_mark, read_ident, read_number,
     read_text, read_trimmed, trim,

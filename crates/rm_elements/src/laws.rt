@@ -2,7 +2,7 @@
 //! on.
 
 ghost use Rattle.std.specs.Prelude.{◌≡◌, ℕ, List, Ok, None, Some};
-ghost use Rattle.soap_profile.specs.Tree.{Element as Tree, name_of};
+ghost use Rattle.soap_document.specs.Profile.Tree.{Element as Tree, name_of};
 ghost use Rattle.soap_writer.specs.Frame.{addressing_space, frame_scope};
 ghost use Rattle.soap_nodes.specs.Good.{IsGood};
 ghost use Rattle.soap_nodes.specs.Node.{node_tree};

@@ -1,6 +1,6 @@
 //! Body elements: WS-ReliableMessaging 1.2, sections 3.4 to 3.6, and WS-MakeConnection 1.1, section 3.
 ghost use Rattle.std.specs.Prelude.{◌≡◌, ◌∷◌, [], option_map};
-ghost use Rattle.soap_profile.specs.View.{element_view, parts_view};
+ghost use Rattle.soap_document.specs.Profile.View.{element_view, parts_view};
 ghost use Rattle.soap_values.specs.Outcome.{Gives, if_present};
 ghost use Rattle.wsa_headers.specs.Endpoint.{uri_of};
 ghost use Rattle.rm_elements.specs.Headers.{number_of};
@@ -23,7 +23,7 @@ ghost use Rattle.rm_elements.specs.Lifecycle.{
 use crate::duration::read_duration;
 use crate::header::{MESSAGING, number_within, read_identifier};
 use rm_base::{Behaviour, Ident, Lapse, Uri};
-use soap_profile::{Element, Item};
+use soap_document::profile::{Element, Item};
 use soap_values::{Flaw, find_optional, find_single, is_named, read_trimmed};
 use std::alloc::Global;
 use wsa_headers::{Epr, read_address_of, read_reference};

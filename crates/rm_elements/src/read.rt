@@ -1,6 +1,6 @@
 //! Header blocks and body elements from trees.
 ghost use Rattle.std.specs.Prelude.{◌≡◌, Option, option_map, Some};
-ghost use Rattle.soap_profile.specs.View.{element_view, attrs_view, parts_view};
+ghost use Rattle.soap_document.specs.Profile.View.{element_view, attrs_view, parts_view};
 ghost use Rattle.soap_values.specs.Outcome.{Gives};
 ghost use Rattle.rm_elements.specs.Outcome.{Answers, named};
 ghost use Rattle.rm_elements.specs.Headers.{header_name as header_name_of, header_as, header_of, sequence_in};
@@ -12,7 +12,7 @@ use crate::error::ElementError;
 use crate::header::{Header, MESSAGING, read_ack, read_identifier, read_numbered, read_pending};
 use crate::lifecycle::{CONNECTION, Lifecycle, read_create, read_finish, read_make, read_response};
 use rm_base::{Blob, MAX_NUMBER};
-use soap_profile::{Element, Item, Name};
+use soap_document::profile::{Element, Item, Name};
 use soap_values::{Flaw, is_named};
 use std::alloc::Global;
 

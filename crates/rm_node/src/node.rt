@@ -45,7 +45,7 @@ pub struct Node {
 
 impl Model for Node {
     ghost use Rattle.std.specs.Coded.{codes};
-    ghost use Rattle.soap_profile.specs.TreeCode.{tree_code};
+    ghost use Rattle.soap_document.specs.Profile.TreeCode.{tree_code};
     ghost use Rattle.rm_node.specs.Noded.{Noded, told};
     ghost use Rattle.rm_node.specs.Timed.{IsKeptRight};
 

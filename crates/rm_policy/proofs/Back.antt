@@ -9,8 +9,8 @@ use Rattle.soap_document.specs.Machine.{start, run, root_of}
 use Rattle.soap_document.specs.Tokens.{is_name, is_qname}
 use Rattle.soap_document.specs.Tree as written
 use Rattle.soap_lex.specs.Tests.{is_plain, is_chars, is_char_data}
-use Rattle.soap_profile.specs.Namespaces.{resolve}
-use Rattle.soap_profile.specs.Tree.{Element}
+use Rattle.soap_document.specs.Profile.Namespaces.{resolve}
+use Rattle.soap_document.specs.Profile.Tree.{Element}
 use Rattle.rm_policy.specs.Assertion.{IsWritable, assertion_of, assertion_in, delivery_in, delivery_of, said_by}
 use Rattle.rm_policy.specs.Assertion.{optional_in}
 use Rattle.rm_policy.specs.Reading.{ReadsAs}

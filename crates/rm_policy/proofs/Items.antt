@@ -1,10 +1,10 @@
 -- One item of content before others.
 use Rattle.std.proofs.Common.{◌≡◌, ◌++◌, List, [], ◌∷◌, Bool, true, false, ◌&&◌, if◌then◌else◌, refl}
 use Rattle.soap_document.specs.Tokens.{is_white}
-use Rattle.soap_profile.specs.Items.{Item, a_declaration, an_attribute, a_text, a_child, parts_among}
-use Rattle.soap_profile.specs.Tree.{Element, name_of}
-use Rattle.soap_profile.specs.View.{item_view, items_view, parts_view}
-use Rattle.soap_profile.specs.declared.tree.Item.{Item as CodeItem}
+use Rattle.soap_document.specs.Profile.Items.{Item, a_declaration, an_attribute, a_text, a_child, parts_among}
+use Rattle.soap_document.specs.Profile.Tree.{Element, name_of}
+use Rattle.soap_document.specs.Profile.View.{item_view, items_view, parts_view}
+use Rattle.soap_document.specs.declared.profile.tree.Item.{Item as CodeItem}
 use Rattle.rm_policy.specs.Content.{children_as, holds_only}
 use Rattle.rm_policy.specs.Words.{is_called}
 use Rattle.rm_policy.specs.declared.word.Word.{Word}

@@ -5,12 +5,12 @@ use Rattle.std.proofs.lemmas.List.{take_all}
 use Rattle.std.specs.Str.{IsUtf8}
 use Rattle.soap_document.specs.Grammar.{IsDocument}
 use Rattle.soap_document.specs.Tree as written
-use Rattle.soap_profile.specs.Answer.{same_front, err_of}
-use Rattle.soap_profile.specs.Document.{Document, IsLongestText, IsTooLong, IsTextUpTo, HasNoTree}
-use Rattle.soap_profile.specs.Namespaces.{resolve}
-use Rattle.soap_profile.specs.Tree.{Element}
-use Rattle.soap_profile.specs.declared.error.EnvelopeError.{EnvelopeError}
-use Rattle.soap_profile.specs.declared.error.EnvelopeError.TheVariants as documents
+use Rattle.soap_document.specs.Profile.Answer.{same_front, err_of}
+use Rattle.soap_document.specs.Profile.Document.{Document, IsLongestText, IsTooLong, IsTextUpTo, HasNoTree}
+use Rattle.soap_document.specs.Profile.Namespaces.{resolve}
+use Rattle.soap_document.specs.Profile.Tree.{Element}
+use Rattle.soap_document.specs.declared.profile.error.EnvelopeError.{EnvelopeError}
+use Rattle.soap_document.specs.declared.profile.error.EnvelopeError.TheVariants as documents
 use Rattle.rm_policy.specs.Assertion.{assertion_of}
 use Rattle.rm_policy.specs.Reading.{ReadsAs, Reads, IsNoDocument}
 use Rattle.rm_policy.specs.Refusal.{refusal_of}

@@ -3,8 +3,8 @@
 use Rattle.std.specs.Prelude.{◌≡◌, ℕ, List, [], ◌∷◌, Bool, true, false, ◌||◌, ◌&&◌, not, if◌then◌else◌, Option, Some}
 use Rattle.std.specs.Prelude.{None, is_some, Result, Ok, Err, codes}
 use Rattle.std.specs.Str.{bytes_eq}
-use Rattle.soap_profile.specs.Tree.{Element, name_of, attrs_of, parts_of}
-use Rattle.soap_profile.specs.declared.tree.Attr.{Attr}
+use Rattle.soap_document.specs.Profile.Tree.{Element, name_of, attrs_of, parts_of}
+use Rattle.soap_document.specs.declared.profile.tree.Attr.{Attr}
 use Rattle.soap_values.specs.Children.{name_in, has_name, value_among}
 use Rattle.soap_values.specs.Outcome.{◌>>=◌, optional, single}
 use Rattle.soap_values.specs.Values.{trimmed, is_true}

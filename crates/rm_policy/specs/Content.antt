@@ -2,7 +2,7 @@
 use Rattle.std.specs.Prelude.{List, [], ◌∷◌, Bool, true, not, ◌&&◌, ◌||◌, if◌then◌else◌, Option, Some, None}
 use Rattle.std.specs.List.{filter}
 use Rattle.soap_document.specs.Tokens.{is_white}
-use Rattle.soap_profile.specs.Tree.{Element, Parts, none, text, child, name_of, parts_of, children_of}
+use Rattle.soap_document.specs.Profile.Tree.{Element, Parts, none, text, child, name_of, parts_of, children_of}
 use Rattle.rm_policy.specs.Words.{is_called, is_one_of, is_ours}
 use Rattle.rm_policy.specs.declared.word.Word.{Word}
 

@@ -1,9 +1,9 @@
 -- What comes of elements and of bytes.
 use Rattle.std.specs.Prelude.{◌≡◌, ℕ, List, Result, Ok, Err}
-use Rattle.soap_profile.specs.Document.{Document, IsReadable, IsTooLong, IsTextUpTo, HasNoTree}
-use Rattle.soap_profile.specs.Tree.{Element}
-use Rattle.soap_profile.specs.declared.error.EnvelopeError.{EnvelopeError}
-use Rattle.soap_profile.specs.declared.error.EnvelopeError.TheVariants as documents
+use Rattle.soap_document.specs.Profile.Document.{Document, IsReadable, IsTooLong, IsTextUpTo, HasNoTree}
+use Rattle.soap_document.specs.Profile.Tree.{Element}
+use Rattle.soap_document.specs.declared.profile.error.EnvelopeError.{EnvelopeError}
+use Rattle.soap_document.specs.declared.profile.error.EnvelopeError.TheVariants as documents
 use Rattle.rm_policy.specs.Assertion.{assertion_of}
 use Rattle.rm_policy.specs.declared.assertion.Assertion.{Assertion}
 use Rattle.rm_policy.specs.declared.error.PolicyError.{PolicyError}

@@ -1,6 +1,6 @@
 -- Why bytes are no assertion that are no document.
-use Rattle.soap_profile.specs.declared.error.EnvelopeError.{EnvelopeError}
-use Rattle.soap_profile.specs.declared.error.EnvelopeError.TheVariants as documents
+use Rattle.soap_document.specs.declared.profile.error.EnvelopeError.{EnvelopeError}
+use Rattle.soap_document.specs.declared.profile.error.EnvelopeError.TheVariants as documents
 use Rattle.rm_policy.specs.declared.error.PolicyError.{PolicyError}
 use Rattle.rm_policy.specs.declared.error.PolicyError.TheVariants.{Memory, Envelope}
 

@@ -4,7 +4,7 @@ ghost use Rattle.rm_policy.specs.Refusal.{refusal_of};
 ghost use Rattle.rm_policy.specs.declared.error.PolicyError.TheVariants.{Memory as WantsMemory};
 
 use rm_base::{Blob, Memory};
-use soap_profile::EnvelopeError;
+use soap_document::profile::EnvelopeError;
 use thiserror::Error;
 
 /// Why bytes or an element are not read as an assertion. `name` is the local name of the first element that asks for

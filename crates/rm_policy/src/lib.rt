@@ -1,5 +1,5 @@
 //! Assertions of reliable messaging, as policies carry them: read from a document or an element, written, and judged.
-//! It stands on trees with expanded names, `soap_profile`, and on `soap_values`. The layers above may use the
+//! It stands on trees with expanded names, `soap_document::profile`, and on `soap_values`. The layers above may use the
 //! contracts, by `specs/`: what an assertion is read as is a function of its tree.
 #![tactic(auto)]
 

@@ -1,6 +1,6 @@
 //! Assertions from bytes and from trees: WS-RM Policy 1.2, section 2.
 ghost use Rattle.std.specs.Prelude.{◌≡◌, option_map, IfOk, IfSome};
-ghost use Rattle.soap_profile.specs.View.{element_view, attrs_view};
+ghost use Rattle.soap_document.specs.Profile.View.{element_view, attrs_view};
 ghost use Rattle.rm_policy.specs.Assertion.{
   truth_of,
   optional_in,
@@ -21,7 +21,7 @@ use crate::content::{find_first, find_optional, find_single, holds_only};
 use crate::error::PolicyError;
 use crate::word::{ASSERTION, OLDER_POLICY, POLICY, Word, assurance_named};
 use rm_base::Blob;
-use soap_profile::{Element, Item, read_element};
+use soap_document::profile::{Element, Item, read_element};
 use soap_values::{find_value, is_named, is_true_mark, trim};
 use std::alloc::Global;
 

@@ -5,7 +5,7 @@ ghost use Rattle.rm_policy.specs.Words.{assurance_named as assurance_of, is_call
 ghost use Rattle.rm_policy.specs.Words.{is_ours as is_one_of_ours, is_one_of as is_any};
 
 use crate::assertion::Assurance;
-use soap_profile::Name;
+use soap_document::profile::Name;
 use soap_values::is_named;
 
 /// The namespace of WS-RM Policy 1.2.

@@ -26,8 +26,8 @@ use Rattle.sequence_table.specs.Sources.{acked, is_sending, phase}
 use Rattle.sequence_table.specs.Destinations.{held, front, has_end, is_ended, is_over}
 use Rattle.sequence_table.specs.Find.{find_incoming, find_outgoing, find_grant, find_creating, is_offered}
 use Rattle.rm_sides.specs.Ranges.Changes.{covers_all, united}
-use Rattle.soap_profile.specs.Tree.{Element}
-use Rattle.soap_profile.specs.declared.name.Expanded.{Expanded}
+use Rattle.soap_document.specs.Profile.Tree.{Element}
+use Rattle.soap_document.specs.declared.profile.name.Expanded.{Expanded}
 use Rattle.rm_protocol.specs.Detail.{named_in}
 use Rattle.rm_protocol.specs.Rows.{then_row, ranges_of, last_of, ack_at, ack_row, final_at, final_row, ack_rows}
 use Rattle.rm_protocol.specs.Rows.{data_row_at, data_row, create_at, create_row, drop_at, drop_unless, response_at}

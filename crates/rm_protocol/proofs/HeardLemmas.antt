@@ -28,8 +28,8 @@ use Rattle.sequence_table.specs.Sources.{acked, is_sending, phase}
 use Rattle.sequence_table.specs.Destinations.{held, front, has_end, is_ended, is_over}
 use Rattle.sequence_table.specs.Find.{find_incoming, find_outgoing, find_grant, find_creating, is_offered}
 use Rattle.rm_sides.specs.Ranges.Changes.{covers_all, united}
-use Rattle.soap_profile.specs.Tree.{Element}
-use Rattle.soap_profile.specs.declared.name.Expanded.{Expanded}
+use Rattle.soap_document.specs.Profile.Tree.{Element}
+use Rattle.soap_document.specs.declared.profile.name.Expanded.{Expanded}
 use Rattle.rm_protocol.specs.Detail.{named_in}
 use Rattle.rm_protocol.specs.Addresses.{is_anonymous, is_nowhere}
 use Rattle.rm_protocol.specs.Heard.{Heard, IsOffered}

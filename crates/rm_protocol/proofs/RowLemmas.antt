@@ -34,8 +34,8 @@ use Rattle.rm_protocol.specs.Sound.{IsAsked, IsAccepted, IsGranted, IsFinal, Say
 use Rattle.rm_protocol.specs.Sound.{SaysResponse, SaysFinal, Says, IsTold, IfWith, Justified, Owns, Fresh, Allows}
 use Rattle.rm_protocol.specs.Sound.{Keeps}
 use Rattle.rm_sides.specs.Ranges.Changes.{covers_all, united}
-use Rattle.soap_profile.specs.Tree.{Element}
-use Rattle.soap_profile.specs.declared.name.Expanded.{Expanded}
+use Rattle.soap_document.specs.Profile.Tree.{Element}
+use Rattle.soap_document.specs.declared.profile.name.Expanded.{Expanded}
 use Rattle.std.specs.Str.{bytes_eq}
 use Rattle.std.proofs.lemmas.Slice.Eq.{bytes_eq-Decides}
 use Rattle.rm_protocol.specs.Addresses.{is_anonymous, is_nowhere}

@@ -1,7 +1,7 @@
 -- The sequence that a fault's Detail names: WS-ReliableMessaging 1.2, section 4.
 use Rattle.std.specs.Prelude.{ℕ, ◌&&◌, if◌then◌else◌, List, [], ◌∷◌, codes, Option, Some, None}
 use Rattle.std.specs.Str.{bytes_eq}
-use Rattle.soap_profile.specs.Tree.{Element, element}
+use Rattle.soap_document.specs.Profile.Tree.{Element, element}
 use Rattle.soap_writer.specs.Frame.{messaging_space}
 use Rattle.soap_values.specs.Values.{trimmed_text}
 use Rattle.record_batch.specs.Fact.{Fact}

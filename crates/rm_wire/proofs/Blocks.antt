@@ -7,9 +7,9 @@ use Rattle.std.specs.Option.{option_to_list}
 use Rattle.std.specs.Str.{bytes_eq}
 use Rattle.std.proofs.lemmas.List.{map-append}
 use Rattle.std.proofs.lemmas.List.Elements.{filter-append}
-use Rattle.soap_profile.specs.Tree.{Element, element, none, name_of, children_of}
-use Rattle.soap_profile.specs.declared.name.Expanded.{Expanded}
-use Rattle.soap_profile.specs.declared.tree.Attr.{Attr}
+use Rattle.soap_document.specs.Profile.Tree.{Element, element, none, name_of, children_of}
+use Rattle.soap_document.specs.declared.profile.name.Expanded.{Expanded}
+use Rattle.soap_document.specs.declared.profile.tree.Attr.{Attr}
 use Rattle.soap_writer.specs.Frame.{addressing_space}
 use Rattle.soap_nodes.specs.Node.{Node, Nodes, nothing, words, more, declared, note_attrs, node_tree, nodes_tree}
 use Rattle.soap_values.specs.Children.{name_in}

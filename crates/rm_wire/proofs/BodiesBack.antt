@@ -6,8 +6,8 @@ use Rattle.std.specs.Str.{bytes_eq}
 use Prim.Native.Nat.{zero, suc}
 use Rattle.rm_base.specs.declared.message.Payload.{Payload}
 use Rattle.soap_lex.specs.Facts.{differ, equal, same}
-use Rattle.soap_profile.specs.Tree.{Element, Parts, none, child, name_of, children_of}
-use Rattle.soap_profile.specs.declared.name.Expanded.{Expanded}
+use Rattle.soap_document.specs.Profile.Tree.{Element, Parts, none, child, name_of, children_of}
+use Rattle.soap_document.specs.declared.profile.name.Expanded.{Expanded}
 use Rattle.soap_frame.specs.Framed.{sorted_scope}
 use Rattle.soap_envelope.specs.Soap.{is_soap11}
 use Rattle.soap_nodes.specs.Node.{node_tree}

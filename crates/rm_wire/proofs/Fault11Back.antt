@@ -7,8 +7,8 @@ use Rattle.std.specs.Str.{bytes_eq}
 use Rattle.std.proofs.lemmas.List.{append-nil}
 use Rattle.rm_base.specs.declared.message.Binding.{Binding}
 use Rattle.soap_lex.specs.Characters.{IsName}
-use Rattle.soap_profile.specs.Tree.{Element, element, parts_of}
-use Rattle.soap_profile.specs.declared.name.Expanded.{Expanded}
+use Rattle.soap_document.specs.Profile.Tree.{Element, element, parts_of}
+use Rattle.soap_document.specs.declared.profile.name.Expanded.{Expanded}
 use Rattle.soap_envelope.specs.Soap.{soap11_space}
 use Rattle.soap_frame.specs.Framed.{sorted_scope}
 use Rattle.soap_writer.specs.Frame.{addressing_space, messaging_space, connection_space}

@@ -6,9 +6,10 @@ use Rattle.std.specs.List.{AllByRecursion, flat_map}
 use Rattle.std.proofs.lemmas.List.{append-nil}
 use Rattle.rm_base.specs.declared.message.Binding.{Binding}
 use Rattle.soap_lex.specs.Facts.{equal, not_nil}
-use Rattle.soap_profile.specs.Tree.{Element, element, Parts, child, decls_of, children_of, without_declarations}
-use Rattle.soap_profile.specs.declared.name.Expanded.{Expanded}
-use Rattle.soap_profile.specs.declared.tree.Attr.{Attr}
+use Rattle.soap_document.specs.Profile.Tree.{Element, element, Parts, child, decls_of, children_of}
+use Rattle.soap_document.specs.Profile.Tree.{without_declarations}
+use Rattle.soap_document.specs.declared.profile.name.Expanded.{Expanded}
+use Rattle.soap_document.specs.declared.profile.tree.Attr.{Attr}
 use Rattle.soap_frame.specs.Framed.{sorted_scope}
 use Rattle.soap_nodes.specs.Node.{Nodes, nothing, more, leaf, full, node_tree, nodes_tree}
 use Rattle.soap_values.specs.Children.{name_in, has_name, text_among}

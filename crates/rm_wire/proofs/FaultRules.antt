@@ -9,11 +9,11 @@ use Rattle.std.proofs.lemmas.Bool.{true≢false}
 use Rattle.rm_base.specs.Text.{IsText}
 use Rattle.soap_lex.specs.Characters.{IsChars}
 use Rattle.soap_lex.specs.Facts.{equal}
-use Rattle.soap_profile.specs.Namespaces.{xmlns_space}
-use Rattle.soap_profile.specs.Payload.{depth}
+use Rattle.soap_document.specs.Profile.Namespaces.{xmlns_space}
+use Rattle.soap_document.specs.Profile.Payload.{depth}
 use Rattle.soap_envelope.specs.Soap.{soap_space}
-use Rattle.soap_profile.specs.Tree.{Element, Parts}
-use Rattle.soap_profile.specs.declared.name.Expanded.{Expanded}
+use Rattle.soap_document.specs.Profile.Tree.{Element, Parts}
+use Rattle.soap_document.specs.declared.profile.name.Expanded.{Expanded}
 use Rattle.soap_writer.specs.Frame.{frame_scope}
 use Rattle.soap_writer.specs.Plain.{is_plain_name, is_plain_text, name_from, chars_from}
 use Rattle.soap_writer.specs.Writable.{IsNameWritable, IsAttrWritable, IsTagWritable, IsWritable}

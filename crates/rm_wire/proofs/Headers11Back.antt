@@ -2,8 +2,8 @@
 use Rattle.std.proofs.Common.{◌≡◌, ℕ, Bool, true, false, not, if◌then◌else◌, List, [], ◌∷◌, ◌++◌, Option, Some, None}
 use Rattle.std.proofs.Common.{codes, map, refl, ◌∙◌}
 use Rattle.std.specs.List.{AllByRecursion, filter}
-use Rattle.soap_profile.specs.Tree.{Element}
-use Rattle.soap_profile.specs.declared.name.Expanded.{Expanded}
+use Rattle.soap_document.specs.Profile.Tree.{Element}
+use Rattle.soap_document.specs.declared.profile.name.Expanded.{Expanded}
 use Rattle.soap_nodes.specs.Node.{node_tree}
 use Rattle.wsa_headers.specs.Writable.{IsAddressingBlock, IsForeign}
 use Rattle.rm_elements.specs.Outcome.{rm, mc}

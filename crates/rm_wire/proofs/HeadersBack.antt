@@ -7,8 +7,8 @@ use Rattle.std.proofs.lemmas.List.{append-nil}
 use Rattle.rm_base.specs.Text.{IsText}
 use Rattle.rm_base.specs.declared.message.Binding.{Binding}
 use Rattle.soap_lex.specs.Facts.{differ, equal}
-use Rattle.soap_profile.specs.Tree.{Element}
-use Rattle.soap_profile.specs.declared.name.Expanded.{Expanded}
+use Rattle.soap_document.specs.Profile.Tree.{Element}
+use Rattle.soap_document.specs.declared.profile.name.Expanded.{Expanded}
 use Rattle.soap_writer.specs.Frame.{addressing_space}
 use Rattle.soap_writer.specs.Writable.{IsNameWritable}
 use Rattle.soap_frame.specs.Framed.{sorted_scope}

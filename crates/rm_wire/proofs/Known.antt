@@ -1,7 +1,7 @@
 -- What the layers below know of what they write.
 use Rattle.std.proofs.Common.{◌≡◌, List, ◌++◌, ℕ, Some, Ok, false}
 use Rattle.std.specs.List.{AllByRecursion}
-use Rattle.soap_profile.specs.Tree.{Element, without_declarations}
+use Rattle.soap_document.specs.Profile.Tree.{Element, without_declarations}
 use Rattle.soap_writer.specs.ReadBack.{written_tree}
 use Rattle.soap_writer.specs.Writable.{IsWritable}
 use Rattle.soap_nodes.specs.Node.{node_tree}

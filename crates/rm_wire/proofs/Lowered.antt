@@ -5,8 +5,8 @@ use Rattle.std.specs.List.{AllByRecursion}
 use Rattle.rm_base.specs.declared.message.Binding.{Binding}
 use Rattle.rm_base.specs.declared.message.Payload.{Payload}
 use Rattle.soap_envelope.specs.Soap.{soap11_space, is_soap11}
-use Rattle.soap_profile.specs.Tree.{Element, none, child}
-use Rattle.soap_profile.specs.declared.name.Expanded.{Expanded}
+use Rattle.soap_document.specs.Profile.Tree.{Element, none, child}
+use Rattle.soap_document.specs.declared.profile.name.Expanded.{Expanded}
 use Rattle.soap_envelope.specs.Envelope.{Envelope, IsEnvelope}
 use Rattle.soap_frame.specs.Framed.{framed_envelope, sorted_scope}
 use Rattle.soap_nodes.specs.Node.{node_tree}

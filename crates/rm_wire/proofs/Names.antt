@@ -14,8 +14,8 @@ use Rattle.soap_lex.specs.Characters.{IsName}
 use Rattle.soap_lex.specs.Facts.{all_passes, all_weaker, same}
 use Rattle.soap_lex.specs.NameBytes.{IsNameByte, name_bytes}
 use Rattle.soap_lex.specs.Scalars.{all_scalar, name_char-scalar, name_each}
-use Rattle.soap_profile.specs.Namespaces.{split, xml_space, bound}
-use Rattle.soap_profile.specs.declared.name.Expanded.{Expanded}
+use Rattle.soap_document.specs.Profile.Namespaces.{split, xml_space, bound}
+use Rattle.soap_document.specs.declared.profile.name.Expanded.{Expanded}
 use Rattle.soap_frame.specs.Framed.{sorted_scope}
 use Rattle.soap_nodes.specs.Node.{note_bindings}
 use Rattle.soap_values.specs.QNames.{qname_in}

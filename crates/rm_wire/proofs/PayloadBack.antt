@@ -5,7 +5,7 @@ use Rattle.std.specs.Prelude.{Contains}
 use Rattle.rm_base.specs.declared.message.Binding.{Binding}
 use Rattle.rm_base.specs.declared.message.Payload.{Payload}
 use Rattle.soap_envelope.specs.Soap.{is_soap11}
-use Rattle.soap_profile.specs.Tree.{Element, Parts, children_of}
+use Rattle.soap_document.specs.Profile.Tree.{Element, Parts, children_of}
 use Rattle.soap_envelope.specs.Envelope.{Envelope}
 use Rattle.soap_writer.specs.Frame.{addressing_space}
 use Rattle.soap_frame.specs.Tagged.{tagged_envelope}

@@ -1,7 +1,7 @@
 -- What the header of a fault of SOAP 1.1 tells: WS-ReliableMessaging 1.2, section 4.
 use Rattle.std.specs.Prelude.{List, Option, Some, None, if◌then◌else◌}
-use Rattle.soap_profile.specs.Tree.{Element}
-use Rattle.soap_profile.specs.declared.name.Expanded.{Expanded}
+use Rattle.soap_document.specs.Profile.Tree.{Element}
+use Rattle.soap_document.specs.declared.profile.name.Expanded.{Expanded}
 use Rattle.message_reader.specs.Faults11.{Told}
 use Rattle.message_writer.specs.Faults11.{goes_ahead}
 

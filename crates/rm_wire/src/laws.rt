@@ -3,7 +3,7 @@
 ghost use Rattle.std.specs.Prelude.{◌≡◌, ◌≢◌, ◌≤◌, ℕ, List, Option, None, Ok, false, IfSome, Contains, length};
 ghost use Rattle.rm_base.specs.Limits.{envelope_bytes};
 ghost use Rattle.rm_base.specs.declared.message.Binding.{Binding as Bound};
-ghost use Rattle.soap_profile.specs.Tree.{Parts};
+ghost use Rattle.soap_document.specs.Profile.Tree.{Parts};
 ghost use Rattle.soap_frame.specs.Framed.{MayBeSoap, sorted_scope};
 ghost use Rattle.soap_frame.specs.Tagged.{tagged_envelope};
 ghost use Rattle.soap_envelope.specs.Soap.{soap_space, soap11_space, is_soap11};

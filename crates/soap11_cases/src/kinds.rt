@@ -7,7 +7,7 @@ use message_writer::fault_message;
 use rm_base::{Blob, Ident, Memory, TextError, Uri};
 use rm_elements::{AckBlock, AckKind, Ranges};
 use rm_message::{Body, FaultBody, FaultCode, FaultKind, Message, Names, Refusal};
-use soap_profile::{Elements, Name, Shared};
+use soap_document::profile::{Elements, Name, Shared};
 use soap11_gate::decode11;
 use std::alloc::Global;
 use wsa_headers::Epr;

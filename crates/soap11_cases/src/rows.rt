@@ -3,7 +3,7 @@ use crate::forms::{START11, joined, kind_of};
 use rm_base::{Binding, Memory, Payload};
 use rm_elements::SeqHeader;
 use rm_message::{Body, FaultBody, FaultCode, FaultKind, Message};
-use soap_profile::Name;
+use soap_document::profile::Name;
 use soap11_gate::decode11;
 use std::alloc::Global;
 use wsa_headers::Addressing;

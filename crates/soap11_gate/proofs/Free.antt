@@ -24,7 +24,7 @@ use Rattle.soap_lex.specs.Facts.{same, equal, differ}
 use Rattle.soap_lex.specs.Tests.{is_nil}
 use Rattle.soap_envelope.specs.Scope.{Rises}
 use Rattle.soap_envelope.specs.Soap.{soap_space}
-use Rattle.soap_profile.specs.Namespaces.{bound, may_bind}
+use Rattle.soap_document.specs.Profile.Namespaces.{bound, may_bind}
 use Rattle.soap_frame.specs.BodyTag.{AreApart}
 use Rattle.soap_stripped.specs.Resolved.{IsBinding, AreInForce}
 use Rattle.soap11_gate.specs.Lift.{numbered_prefix, IsFirstFree}

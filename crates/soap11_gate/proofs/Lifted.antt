@@ -15,9 +15,9 @@ use Rattle.soap_document.specs.declared.attribute.WrittenAttribute.{WrittenAttri
 use Rattle.soap_envelope.specs.Envelope.{IsEnvelope, name_in}
 use Rattle.soap_envelope.specs.Scope.{IsScope, declared}
 use Rattle.soap_envelope.specs.Soap.{soap_space, soap11_space, is_soap11}
-use Rattle.soap_profile.specs.Namespaces.{bound, or_none, resolve_parts, tag_of, xmlns_space}
-use Rattle.soap_profile.specs.Payload.{depth as nested}
-use Rattle.soap_profile.specs.Tree.{Element, Parts}
+use Rattle.soap_document.specs.Profile.Namespaces.{bound, or_none, resolve_parts, tag_of, xmlns_space}
+use Rattle.soap_document.specs.Profile.Payload.{depth as nested}
+use Rattle.soap_document.specs.Profile.Tree.{Element, Parts}
 use Rattle.soap_frame.specs.BodyTag.{declaring_name, declaration, AreApart, MayBeDeclared, body_name, body_bindings}
 use Rattle.soap_frame.specs.Covers.{Covers}
 use Rattle.soap_frame.specs.Framed.{Block, IsBlock, MayBeSoap, bytes_of, trees_of}

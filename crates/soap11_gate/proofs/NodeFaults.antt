@@ -1,6 +1,6 @@
 -- The faults that a node writes are told in SOAP 1.1, but for the inner subcode of one kind.
 use Rattle.std.proofs.Common.{◌≢◌, List, codes, refl}
-use Rattle.soap_profile.specs.Tree.{Element}
+use Rattle.soap_document.specs.Profile.Tree.{Element}
 use Rattle.rm_message.specs.declared.message.FaultCode.TheVariants.{VersionMismatch, MustUnderstand, Sender, Receiver}
 use Rattle.rm_message.specs.declared.refusal.FaultKind.{FaultKind}
 use Rattle.rm_message.specs.declared.refusal.FaultKind.TheVariants as kinds

@@ -13,7 +13,7 @@ use Rattle.std.proofs.lemmas.List.Elements.{Contains-append_left, Contains-push,
 use Rattle.std.proofs.lemmas.List.Sorted.{Contains-permutation, IsPermutation-sym, IsNonDecreasingBy-from_sort}
 use Rattle.rm_base.specs.declared.message.Binding.{Binding}
 use Rattle.soap_lex.specs.Facts.{same, equal}
-use Rattle.soap_profile.specs.Namespaces.{bound}
+use Rattle.soap_document.specs.Profile.Namespaces.{bound}
 use Rattle.soap_values.specs.Values.{trimmed, whole_number}
 use Rattle.soap11_gate.specs.Lift.{numbered_prefix, AreNumbers, IsFirstFree}
 

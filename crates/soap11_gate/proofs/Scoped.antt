@@ -13,7 +13,7 @@ use Rattle.rm_base.specs.declared.message.Binding.{Binding}
 use Rattle.soap_lex.specs.Facts.{same, equal}
 use Rattle.soap_lex.specs.Tests.{is_nil}
 use Rattle.soap_envelope.specs.Scope.{declared, Rises, IsScope}
-use Rattle.soap_profile.specs.Namespaces.{bound}
+use Rattle.soap_document.specs.Profile.Namespaces.{bound}
 use Rattle.soap11_gate.proofs.Free.{absent, others_by}
 
 -- ---- orders

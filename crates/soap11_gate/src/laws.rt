@@ -5,7 +5,7 @@ ghost use Rattle.rm_base.specs.declared.message.Binding.{Binding as Bound};
 ghost use Rattle.rm_base.specs.declared.message.Payload.{Payload as Held};
 ghost use Rattle.soap_envelope.specs.Scope.{IsScope};
 ghost use Rattle.soap_envelope.specs.Soap.{soap_space};
-ghost use Rattle.soap_profile.specs.Tree.{Element as Tree};
+ghost use Rattle.soap_document.specs.Profile.Tree.{Element as Tree};
 ghost use Rattle.soap_frame.specs.BodyTag.{body_bindings};
 ghost use Rattle.soap_writer.specs.Frame.{frame_scope};
 ghost use Rattle.soap_nodes.specs.Node.{node_text};

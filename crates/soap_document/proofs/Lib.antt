@@ -25,3 +25,4 @@ pub mod TokenLaws
 pub mod Utf8
 pub mod Values
 pub mod Words
+pub mod ProfileLemmas

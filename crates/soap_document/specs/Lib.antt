@@ -7,3 +7,4 @@ pub mod Seen
 pub mod Tokens
 pub mod Tree
 pub mod Within
+pub mod Profile

@@ -18,3 +18,5 @@ pub use attribute::WrittenAttribute;
 pub use handler::Handler;
 pub use reader::Reader;
 pub use tokens::{cut, is_qname, is_white};
+
+pub mod profile;

@@ -5,18 +5,18 @@ use Rattle.std.proofs.lemmas.Slice.Eq.{bytes_eq-Decides}
 use Rattle.std.specs.Cmp.Lexicographic.{pointwise}
 use Rattle.std.specs.List.{slice_range}
 use Rattle.soap_document.specs.Tree as written
-use Rattle.soap_profile.specs.Document.{IsPlaced, place_of}
-use Rattle.soap_profile.specs.Tree.{Element, element, Parts, name_of, decls_of, parts_of, children_of}
+use Rattle.soap_document.specs.Profile.Document.{IsPlaced, place_of}
+use Rattle.soap_document.specs.Profile.Tree.{Element, element, Parts, name_of, decls_of, parts_of, children_of}
 use Rattle.rm_base.specs.declared.message.Binding.{Binding}
-use Rattle.soap_profile.specs.declared.name.Expanded.{Expanded}
-use Rattle.soap_profile.specs.declared.tree.Attr.{Attr}
-use Rattle.soap_profile.specs.View.{element_view}
-use Rattle.soap_profile.specs.declared.place.Place.{Place}
-use Rattle.soap_profile.specs.declared.tree.Element.{Element as CodeElement}
+use Rattle.soap_document.specs.declared.profile.name.Expanded.{Expanded}
+use Rattle.soap_document.specs.declared.profile.tree.Attr.{Attr}
+use Rattle.soap_document.specs.Profile.View.{element_view}
+use Rattle.soap_document.specs.declared.profile.place.Place.{Place}
+use Rattle.soap_document.specs.declared.profile.tree.Element.{Element as CodeElement}
 use Rattle.soap_envelope.specs.Envelope.{name_in, bytes_within, IsOutline, IsHeader, without, blocks, Envelope}
 use Rattle.soap_envelope.specs.Envelope.{IsEnvelope}
 use Rattle.soap_envelope.specs.Scope.{IsScope}
-use Rattle.soap_profile.specs.Answer.{err_of}
+use Rattle.soap_document.specs.Profile.Answer.{err_of}
 use Rattle.soap_envelope.proofs.Placed.{mapped}
 
 -- ---- the header blocks

@@ -5,10 +5,10 @@ use Rattle.xml_chars.specs.Classes.{is_space}
 use Rattle.soap_lex.specs.Facts.{all_passes, all_from_passes}
 use Rattle.soap_document.specs.Grammar.{IsWhite}
 use Rattle.soap_document.specs.Tokens.{is_white}
-use Rattle.soap_profile.specs.Tree.{Element, Parts, none, text, child, name_of}
-use Rattle.soap_profile.specs.declared.name.Expanded.{Expanded}
-use Rattle.soap_profile.specs.View.{element_view}
-use Rattle.soap_profile.specs.declared.tree.Element.{Element as CodeElement}
+use Rattle.soap_document.specs.Profile.Tree.{Element, Parts, none, text, child, name_of}
+use Rattle.soap_document.specs.declared.profile.name.Expanded.{Expanded}
+use Rattle.soap_document.specs.Profile.View.{element_view}
+use Rattle.soap_document.specs.declared.profile.tree.Element.{Element as CodeElement}
 use Rattle.soap_envelope.specs.Envelope.{name_in, IsSpaced, bare, spaced, IsBodyAlone, IsOutline, headless, headed}
 use Rattle.soap_envelope.specs.Steps.{Comes, IsSpacing, IsOther, Follows, BodyFound, Outlined}
 use Rattle.soap_envelope.specs.declared.outline.Next.{Next}

@@ -1,10 +1,10 @@
 -- Parts that are taken one by one.
 use Rattle.std.proofs.Common.{◌≡◌, List, [], ◌∷◌, Bool, true, false, refl, sym, ap, ◌∙◌}
-use Rattle.soap_profile.specs.Items.{Item, a_declaration, an_attribute, a_text, a_child, parts_among, is_part}
-use Rattle.soap_profile.specs.Steps.{join}
-use Rattle.soap_profile.specs.Tree.{Parts, none, text, child}
-use Rattle.soap_profile.specs.View.{item_view, items_view, parts_view}
-use Rattle.soap_profile.specs.declared.tree.Item.{Item as CodeItem}
+use Rattle.soap_document.specs.Profile.Items.{Item, a_declaration, an_attribute, a_text, a_child, parts_among, is_part}
+use Rattle.soap_document.specs.Profile.Steps.{join}
+use Rattle.soap_document.specs.Profile.Tree.{Parts, none, text, child}
+use Rattle.soap_document.specs.Profile.View.{item_view, items_view, parts_view}
+use Rattle.soap_document.specs.declared.profile.tree.Item.{Item as CodeItem}
 
 pub join_none : (p : Parts) → join p none ≡ p
 join_none none = refl

@@ -4,12 +4,12 @@ use Rattle.std.proofs.Common.{length, append-nil, refl, sym, ap, subst, ◌∙�
 use Rattle.soap_document.specs.Grammar.{IsContent, IsDocument}
 use Rattle.soap_document.specs.Tree as written
 use Rattle.soap_document.specs.Within.{IsWithin, IsAmong, root, deeper, here, behind_child, behind_text, StandsBetween}
-use Rattle.soap_profile.specs.Document.{IsPlaced, place_of}
-use Rattle.soap_profile.specs.Namespaces.{resolve, resolve_parts, joined, tag_of, Resolved}
-use Rattle.soap_profile.specs.Tree.{Element, element, Parts, none, text, child, decls_of, parts_of}
+use Rattle.soap_document.specs.Profile.Document.{IsPlaced, place_of}
+use Rattle.soap_document.specs.Profile.Namespaces.{resolve, resolve_parts, joined, tag_of, Resolved}
+use Rattle.soap_document.specs.Profile.Tree.{Element, element, Parts, none, text, child, decls_of, parts_of}
 use Rattle.rm_base.specs.declared.message.Binding.{Binding}
-use Rattle.soap_profile.specs.Tree.{children_of}
-use Rattle.soap_profile.specs.declared.place.Place.{Place}
+use Rattle.soap_document.specs.Profile.Tree.{children_of}
+use Rattle.soap_document.specs.declared.profile.place.Place.{Place}
 use Rattle.soap_envelope.specs.Envelope.{name_in, bytes_within, IsSpaced, bare, spaced, IsBodyAlone, IsOutline}
 use Rattle.soap_envelope.specs.Envelope.{Envelope, IsEnvelope, StandsFor}
 use Rattle.soap_envelope.proofs.Outlines.{outline_cases}

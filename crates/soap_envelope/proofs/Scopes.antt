@@ -16,7 +16,7 @@ use Rattle.std.specs.Map.{lookup, keys_of}
 use Rattle.std.specs.Ordering.{is_lt}
 use Rattle.std.specs.Str.{bytes_eq}
 use Rattle.soap_lex.specs.Tests.{is_nil}
-use Rattle.soap_profile.specs.Namespaces.{bound}
+use Rattle.soap_document.specs.Profile.Namespaces.{bound}
 use Rattle.rm_base.specs.declared.message.Binding.{Binding}
 use Rattle.soap_envelope.specs.Scope.{declared, Rises, IsScope}
 use Rattle.soap_envelope.specs.Steps.{Lent, lent_cmp, kept, kept_one}

@@ -9,9 +9,9 @@ use Rattle.std.specs.Ordering.{is_lt, ordering_reverse}
 use Rattle.std.specs.Str.{bytes_eq}
 use Rattle.soap_document.specs.Grammar.{IsDocument}
 use Rattle.soap_document.specs.Tree as written
-use Rattle.soap_profile.specs.Document.{Document}
-use Rattle.soap_profile.specs.Namespaces.{bound, resolve}
-use Rattle.soap_profile.specs.Tree.{Element, element, Parts, name_of, decls_of, parts_of}
+use Rattle.soap_document.specs.Profile.Document.{Document}
+use Rattle.soap_document.specs.Profile.Namespaces.{bound, resolve}
+use Rattle.soap_document.specs.Profile.Tree.{Element, element, Parts, name_of, decls_of, parts_of}
 use Rattle.rm_base.specs.declared.message.Binding.{Binding}
 use Rattle.soap_envelope.specs.Envelope.{name_in, bytes_within, IsBodyAlone, IsOutline, IsHeader, without, blocks}
 use Rattle.soap_envelope.specs.Envelope.{Envelope, IsEnvelope}

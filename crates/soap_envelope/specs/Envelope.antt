@@ -2,12 +2,12 @@
 use Rattle.std.specs.Prelude.{◌≡◌, ℕ, ◌-◌, List, [], ◌++◌, Option, Some, None, codes, take, drop}
 use Rattle.soap_document.specs.Grammar.{IsContent, IsDocument, IsWhite}
 use Rattle.soap_document.specs.Tree as written
-use Rattle.soap_profile.specs.Namespaces.{resolve, resolve_parts}
-use Rattle.soap_profile.specs.Tree.{Element, element, Parts, none, text, child, name_of, decls_of, parts_of}
+use Rattle.soap_document.specs.Profile.Namespaces.{resolve, resolve_parts}
+use Rattle.soap_document.specs.Profile.Tree.{Element, element, Parts, none, text, child, name_of, decls_of, parts_of}
 use Rattle.rm_base.specs.declared.message.Binding.{Binding}
-use Rattle.soap_profile.specs.Tree.{children_of}
-use Rattle.soap_profile.specs.declared.name.Expanded.{Expanded}
-use Rattle.soap_profile.specs.declared.tree.Attr.{Attr}
+use Rattle.soap_document.specs.Profile.Tree.{children_of}
+use Rattle.soap_document.specs.declared.profile.name.Expanded.{Expanded}
+use Rattle.soap_document.specs.declared.profile.tree.Attr.{Attr}
 use Rattle.soap_envelope.specs.Scope.{IsScope}
 
 -- a name of SOAP, where SOAP has this namespace

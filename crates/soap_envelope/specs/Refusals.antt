@@ -1,7 +1,7 @@
 -- Why a document is no envelope, where SOAP has a namespace: SOAP 1.2 Part 1, sections 2.8 and 5.1.
 use Rattle.std.specs.Prelude.{◌≡◌, ◌≢◌, ℕ, List, Option, codes}
-use Rattle.soap_profile.specs.Document.{Document}
-use Rattle.soap_profile.specs.Tree.{Element, name_of, parts_of}
+use Rattle.soap_document.specs.Profile.Document.{Document}
+use Rattle.soap_document.specs.Profile.Tree.{Element, name_of, parts_of}
 use Rattle.soap_envelope.specs.Envelope.{name_in, IsOutline}
 
 -- the root is called Envelope in another namespace

@@ -9,13 +9,13 @@ use Rattle.std.specs.declared.cmp.Ordering.{Ordering}
 use Rattle.std.specs.Str.{bytes_eq}
 use Rattle.soap_document.specs.Grammar.{IsWhite}
 use Rattle.soap_lex.specs.Tests.{is_nil}
-use Rattle.soap_profile.specs.Namespaces.{bound}
-use Rattle.soap_profile.specs.Tree.{Element, Parts, none, text, child}
+use Rattle.soap_document.specs.Profile.Namespaces.{bound}
+use Rattle.soap_document.specs.Profile.Tree.{Element, Parts, none, text, child}
 use Rattle.rm_base.specs.declared.message.Binding.{Binding}
-use Rattle.soap_profile.specs.View.{element_view}
-use Rattle.soap_profile.specs.declared.tree.Element.{Element as CodeElement}
-use Rattle.soap_profile.specs.declared.error.EnvelopeError.{EnvelopeError}
-use Rattle.soap_profile.specs.declared.error.EnvelopeError.TheVariants as Error
+use Rattle.soap_document.specs.Profile.View.{element_view}
+use Rattle.soap_document.specs.declared.profile.tree.Element.{Element as CodeElement}
+use Rattle.soap_document.specs.declared.profile.error.EnvelopeError.{EnvelopeError}
+use Rattle.soap_document.specs.declared.profile.error.EnvelopeError.TheVariants as Error
 use Rattle.soap_envelope.specs.Envelope.{IsEnvelope, IsSpaced, IsBodyAlone, IsOutline}
 use Rattle.soap_envelope.specs.Refusals.{WrongVersion, NotEnvelope}
 use Rattle.soap_envelope.specs.View.{envelope_view}

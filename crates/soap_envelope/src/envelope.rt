@@ -1,6 +1,6 @@
 //! An envelope, as a value.
 use rm_base::{Bindings, Payload};
-use soap_profile::{Elements, Parts};
+use soap_document::profile::{Elements, Parts};
 
 /// An envelope: SOAP 1.2 Part 1, section 5.
 #[derive(Debug, Drop)]

@@ -1,7 +1,7 @@
 //! Laws of envelopes, each the contract of a function that does nothing but to bring in the laws that it stands on.
 
 ghost use Rattle.std.specs.Prelude.{◌≡◌, ◌++◌, ℕ, List, Option};
-ghost use Rattle.soap_profile.specs.Tree.{Element, Parts, decls_of};
+ghost use Rattle.soap_document.specs.Profile.Tree.{Element, Parts, decls_of};
 ghost use Rattle.rm_base.specs.declared.message.Binding.{Binding};
 ghost use Rattle.soap_envelope.specs.Envelope.{Envelope, IsEnvelope, IsOutline, StandsFor};
 ghost use Rattle.soap_envelope.specs.Refusals.{WrongVersion, NotEnvelope};

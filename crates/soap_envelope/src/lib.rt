@@ -1,5 +1,5 @@
 //! Envelopes of SOAP, read from bytes: the header blocks, and the payload as the exact bytes between Body's tags,
-//! each with the bindings in force there. It stands on documents with expanded names, `soap_profile`. The layer above
+//! each with the bindings in force there. It stands on documents with expanded names, `soap_document::profile`. The layer above
 //! may use the envelope and the contract of `read_envelope`, by `specs/Envelope`, and the laws.
 #![tactic(auto)]
 

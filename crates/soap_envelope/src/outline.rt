@@ -1,14 +1,14 @@
 //! The parts of an Envelope, taken apart: an optional Header, and a Body.
 ghost use Rattle.std.specs.Prelude.{◌≡◌, ◌∷◌, [], ◌++◌, ◌↔◌, IsTrue, IfSome, IfOk, OnOk, Some, option_map};
 ghost use Rattle.std.specs.Vec.Iter.{into_iter_items};
-ghost use Rattle.soap_profile.specs.Tree.{none, name_of, decls_of, parts_of, children_of};
-ghost use Rattle.soap_profile.specs.View.{element_view, decls_view, parts_view};
+ghost use Rattle.soap_document.specs.Profile.Tree.{none, name_of, decls_of, parts_of, children_of};
+ghost use Rattle.soap_document.specs.Profile.View.{element_view, decls_view, parts_view};
 ghost use Rattle.soap_envelope.specs.Envelope.{IsSpaced, name_in};
 ghost use Rattle.soap_envelope.specs.Steps.{BodyFound, Comes, Follows, IsSpacing, Outlined};
 
 use rm_base::{Binding, Blob, Bytes, Memory};
 use soap_document::is_white;
-use soap_profile::{Element, Elements, Item, Name, Parts, is_part};
+use soap_document::profile::{Element, Elements, Item, Name, Parts, is_part};
 use std::alloc::Global;
 use std::vec::IntoIter;
 

@@ -1,9 +1,9 @@
 //! The reader of envelopes.
 ghost use Rattle.std.specs.Prelude.{◌≡◌, ◌≤◌, ◌↔◌, ◌++◌, ℕ, length, option_map, slice_range, IfOk, Err};
-ghost use Rattle.soap_profile.specs.Document.{IsPlaced, IsReadable, IsTooLong, IsTextUpTo, HasNoTree};
+ghost use Rattle.soap_document.specs.Profile.Document.{IsPlaced, IsReadable, IsTooLong, IsTextUpTo, HasNoTree};
 ghost use Rattle.soap_envelope.specs.Soap.{soap_space, is_soap11 as is_first};
-ghost use Rattle.soap_profile.specs.Tree.{decls_of, parts_of};
-ghost use Rattle.soap_profile.specs.View.{element_view};
+ghost use Rattle.soap_document.specs.Profile.Tree.{decls_of, parts_of};
+ghost use Rattle.soap_document.specs.Profile.View.{element_view};
 ghost use Rattle.soap_envelope.specs.Envelope.{IsEnvelope, IsHeader};
 ghost use Rattle.soap_envelope.specs.Refusals.{WrongVersion, NotEnvelope};
 ghost use Rattle.soap_envelope.specs.Scope.{IsScope};
@@ -15,7 +15,7 @@ use crate::outline::{TakenApart, children, outline, parts, taken_apart};
 use crate::scope::in_force;
 use rm_base::{Binding, Bindings, Blob, Items, Memory, Payload};
 use soap_document::laws::content_stands_between;
-use soap_profile::{Element, Elements, EnvelopeError, Parts, Place, Placed, read_placed};
+use soap_document::profile::{Element, Elements, EnvelopeError, Parts, Place, Placed, read_placed};
 use std::alloc::Global;
 
 /// The namespace of envelopes: SOAP 1.2 Part 1, section 5.1.

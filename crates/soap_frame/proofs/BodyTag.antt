@@ -9,10 +9,10 @@ use Rattle.soap_lex.specs.Facts.{all_weaker, equal}
 use Rattle.soap_lex.specs.NameBytes.{IsNameByte, name_bytes}
 use Rattle.soap_document.specs.Cuts.{cut-append}
 use Rattle.soap_lex.specs.Tests.{is_nil}
-use Rattle.soap_profile.specs.Namespaces.{split, declared_prefix, with_declaration, declarations}
-use Rattle.soap_profile.specs.Namespaces.{unless_declared, attribute_name, expanded, is_new, are_distinct}
-use Rattle.soap_profile.specs.Namespaces.{element_name, declaring, resolved_with, tag_of}
-use Rattle.soap_profile.specs.declared.tree.Attr.{Attr}
+use Rattle.soap_document.specs.Profile.Namespaces.{split, declared_prefix, with_declaration, declarations}
+use Rattle.soap_document.specs.Profile.Namespaces.{unless_declared, attribute_name, expanded, is_new, are_distinct}
+use Rattle.soap_document.specs.Profile.Namespaces.{element_name, declaring, resolved_with, tag_of}
+use Rattle.soap_document.specs.declared.profile.tree.Attr.{Attr}
 use Rattle.soap_envelope.specs.Envelope.{name_in}
 use Rattle.soap_frame.specs.BodyTag.{declaring_name, declaration, AreApart, MayBeDeclared, body_name, body_bindings}
 

@@ -4,9 +4,9 @@ use Rattle.std.proofs.Common.{ap₂, ◌∙◌, arith}
 use Rattle.rm_base.specs.declared.message.Binding.{Binding}
 use Rattle.soap_document.specs.Grammar.{IsContent, max_depth}
 use Rattle.soap_document.specs.Tree as written
-use Rattle.soap_profile.specs.Namespaces.{bound, or_none, Resolved, tag_of, resolve, resolve_parts, joined}
-use Rattle.soap_profile.specs.Payload.{height, depth, IsClosedContent}
-use Rattle.soap_profile.specs.Tree.{Element, element, Parts, none, text, child}
+use Rattle.soap_document.specs.Profile.Namespaces.{bound, or_none, Resolved, tag_of, resolve, resolve_parts, joined}
+use Rattle.soap_document.specs.Profile.Payload.{height, depth, IsClosedContent}
+use Rattle.soap_document.specs.Profile.Tree.{Element, element, Parts, none, text, child}
 use Rattle.soap_writer.specs.ReadBack.{ContentReadsAs}
 use Rattle.soap_frame.proofs.Moved.{tall, deep, content_moved, with_tag}
 use Rattle.soap_frame.specs.Covers.{Covers}

@@ -6,14 +6,16 @@ use Rattle.rm_base.specs.declared.message.Binding.{Binding}
 use Rattle.soap_document.specs.declared.attribute.WrittenAttribute.{WrittenAttribute}
 use Rattle.soap_lex.specs.Tests.{is_nil}
 use Rattle.soap_document.specs.Tree as written
-use Rattle.soap_profile.specs.Namespaces.{bound, or_none, prefix_space, element_space, attribute_space, named}
-use Rattle.soap_profile.specs.Namespaces.{element_name, attribute_name, split, xml_space, declared_prefix}
-use Rattle.soap_profile.specs.Namespaces.{declarations, with_attribute, unless_declared, expanded, are_distinct}
-use Rattle.soap_profile.specs.Namespaces.{Resolved, resolved_with, tag_within, declaring, tag_of, joined, resolve}
-use Rattle.soap_profile.specs.Namespaces.{resolve_parts}
-use Rattle.soap_profile.specs.Tree.{Element, element, Parts, text}
-use Rattle.soap_profile.specs.declared.name.Expanded.{Expanded}
-use Rattle.soap_profile.specs.declared.tree.Attr.{Attr}
+use Rattle.soap_document.specs.Profile.Namespaces.{bound, or_none, prefix_space, element_space, attribute_space, named}
+use Rattle.soap_document.specs.Profile.Namespaces.{element_name, attribute_name, split, xml_space, declared_prefix}
+use Rattle.soap_document.specs.Profile.Namespaces.{declarations, with_attribute, unless_declared, expanded}
+use Rattle.soap_document.specs.Profile.Namespaces.{are_distinct}
+use Rattle.soap_document.specs.Profile.Namespaces.{Resolved, resolved_with, tag_within, declaring, tag_of, joined}
+use Rattle.soap_document.specs.Profile.Namespaces.{resolve}
+use Rattle.soap_document.specs.Profile.Namespaces.{resolve_parts}
+use Rattle.soap_document.specs.Profile.Tree.{Element, element, Parts, text}
+use Rattle.soap_document.specs.declared.profile.name.Expanded.{Expanded}
+use Rattle.soap_document.specs.declared.profile.tree.Attr.{Attr}
 use Rattle.soap_frame.specs.Covers.{Covers}
 
 -- ---- bindings

@@ -16,9 +16,9 @@ use Rattle.soap_document.specs.Grammar.{IsAttributes, IsElement, IsContent, IsDo
 use Rattle.soap_document.specs.Grammar.{white, prefixed, end, full, last, more, start_tag, end_tag}
 use Rattle.soap_lex.specs.Tests.{is_nil}
 use Rattle.soap_document.specs.Tree as written
-use Rattle.soap_profile.specs.Namespaces.{bound, declaring, resolve_parts, joined, Resolved, tag_of}
+use Rattle.soap_document.specs.Profile.Namespaces.{bound, declaring, resolve_parts, joined, Resolved, tag_of}
 use Rattle.soap_envelope.specs.Soap.{soap_space}
-use Rattle.soap_profile.specs.Tree.{Element, element, Parts, none, child, children_of}
+use Rattle.soap_document.specs.Profile.Tree.{Element, element, Parts, none, child, children_of}
 use Rattle.soap_envelope.specs.Envelope.{name_in, IsEnvelope, headed, bare, IsHeader, blocks}
 use Rattle.soap_envelope.specs.Scope.{IsScope, in_force, declared as declared_in}
 use Rattle.soap_writer.specs.ElementText.{quoted}

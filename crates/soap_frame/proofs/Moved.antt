@@ -6,8 +6,8 @@ use Rattle.rm_base.specs.declared.message.Binding.{Binding}
 use Rattle.soap_document.specs.Grammar.{IsElement, IsContent, full, empty, last, more, start_tag, empty_tag, max_depth}
 use Rattle.soap_document.specs.Tree as written
 use Rattle.soap_document.specs.Tree.{onto}
-use Rattle.soap_profile.specs.Namespaces.{resolve, resolve_parts, joined, Resolved, tag_of}
-use Rattle.soap_profile.specs.Tree.{Element, element, Parts, text}
+use Rattle.soap_document.specs.Profile.Namespaces.{resolve, resolve_parts, joined, Resolved, tag_of}
+use Rattle.soap_document.specs.Profile.Tree.{Element, element, Parts, text}
 
 abbrev mutual
   pub tall : written.Element → ℕ

@@ -10,8 +10,8 @@ use Rattle.soap_document.specs.declared.attribute.WrittenAttribute.{WrittenAttri
 use Rattle.soap_document.specs.Grammar.{IsElement, IsContent, IsDocument, document, unmarked, without}
 use Rattle.soap_document.specs.Grammar.{white, prefixed, end, full, last, more, start_tag, end_tag}
 use Rattle.soap_document.specs.Tree as written
-use Rattle.soap_profile.specs.Namespaces.{resolve_parts, joined, Resolved, tag_of}
-use Rattle.soap_profile.specs.Tree.{Element, element, Parts, none, child}
+use Rattle.soap_document.specs.Profile.Namespaces.{resolve_parts, joined, Resolved, tag_of}
+use Rattle.soap_document.specs.Profile.Tree.{Element, element, Parts, none, child}
 use Rattle.soap_envelope.specs.Envelope.{name_in, IsEnvelope, headed, bare, IsHeader, blocks}
 use Rattle.soap_envelope.specs.Scope.{IsScope}
 use Rattle.soap_writer.specs.Frame.{frame_scope}

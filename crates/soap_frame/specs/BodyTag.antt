@@ -3,7 +3,7 @@ use Rattle.std.specs.Prelude.{◌≡◌, ℕ, List, [], ◌∷◌, ◌++◌, tru
 use Rattle.std.specs.List.{AllByRecursion}
 use Rattle.std.specs.Str.{bytes_eq}
 use Rattle.soap_document.specs.declared.attribute.WrittenAttribute.{WrittenAttribute}
-use Rattle.soap_profile.specs.Namespaces.{may_bind}
+use Rattle.soap_document.specs.Profile.Namespaces.{may_bind}
 use Rattle.rm_base.specs.declared.message.Binding.{Binding}
 
 -- the name of the attribute that declares a prefix; the default namespace has none

@@ -2,7 +2,7 @@
 use Rattle.std.specs.Prelude.{◌≡◌, ℕ, List, [], false, Some, codes}
 use Rattle.std.specs.Str.{bytes_eq}
 use Rattle.soap_lex.specs.Tests.{is_nil}
-use Rattle.soap_profile.specs.Namespaces.{bound, or_none}
+use Rattle.soap_document.specs.Profile.Namespaces.{bound, or_none}
 use Rattle.rm_base.specs.declared.message.Binding.{Binding}
 
 -- each prefix that is bound stays bound so, and the default namespace is the same

@@ -3,8 +3,8 @@ use Rattle.std.specs.Prelude.{◌≡◌, ℕ, List, [], ◌∷◌, ◌++◌, tru
 use Rattle.std.specs.List.{flat_map}
 use Rattle.rm_base.specs.declared.message.Binding.{Binding}
 use Rattle.soap_lex.specs.Characters.{IsChars}
-use Rattle.soap_profile.specs.Namespaces.{may_bind}
-use Rattle.soap_profile.specs.Tree.{Element, Parts}
+use Rattle.soap_document.specs.Profile.Namespaces.{may_bind}
+use Rattle.soap_document.specs.Profile.Tree.{Element, Parts}
 use Rattle.soap_envelope.specs.Envelope.{Envelope}
 use Rattle.soap_writer.specs.ElementText.{quoted}
 use Rattle.soap_writer.specs.Frame.{of_soap, of_addressing, of_messaging, of_connection, binding_of, frame_scope}

@@ -4,7 +4,7 @@ use Rattle.std.specs.Prelude.{ℕ, List, [], ◌++◌, codes}
 use Rattle.soap_document.specs.Grammar.{start_tag, end_tag}
 use Rattle.soap_document.specs.declared.attribute.WrittenAttribute.{WrittenAttribute}
 use Rattle.rm_base.specs.declared.message.Binding.{Binding}
-use Rattle.soap_profile.specs.Tree.{Element, Parts}
+use Rattle.soap_document.specs.Profile.Tree.{Element, Parts}
 use Rattle.soap_envelope.specs.Envelope.{Envelope}
 use Rattle.soap_writer.specs.ReadBack.{written_attributes}
 use Rattle.soap_frame.specs.Framed.{envelope_start, sorted_scope}

@@ -9,9 +9,9 @@ use Rattle.soap_document.specs.declared.attribute.WrittenAttribute.{WrittenAttri
 use Rattle.soap_document.specs.Grammar as grammar
 use Rattle.soap_document.specs.Grammar.{IsAttributes, IsQName, start_tag, end_tag, empty_tag}
 use Rattle.soap_document.specs.Tree as written
-use Rattle.soap_profile.specs.Namespaces.{bound, named, Resolved, resolved_with, resolve_parts}
-use Rattle.soap_profile.specs.Tree.{Element, element, Parts, none, text, child}
-use Rattle.soap_profile.specs.declared.name.Expanded.{Expanded}
+use Rattle.soap_document.specs.Profile.Namespaces.{bound, named, Resolved, resolved_with, resolve_parts}
+use Rattle.soap_document.specs.Profile.Tree.{Element, element, Parts, none, text, child}
+use Rattle.soap_document.specs.declared.profile.name.Expanded.{Expanded}
 use Rattle.soap_writer.specs.ElementText.{quoted, element_text}
 use Rattle.soap_writer.specs.Frame.{Prefix, of_soap, of_addressing, of_messaging, of_connection, letter, space_of}
 use Rattle.soap_writer.specs.Plain.{is_plain_name, name_from}

@@ -5,7 +5,7 @@ use Rattle.rm_base.specs.declared.message.Binding.{Binding}
 use Rattle.soap_lex.specs.Characters.{IsChars}
 use Rattle.soap_document.specs.declared.attribute.WrittenAttribute.{WrittenAttribute}
 use Rattle.soap_document.specs.Grammar.{max_depth}
-use Rattle.soap_profile.specs.Namespaces.{tag_of}
+use Rattle.soap_document.specs.Profile.Namespaces.{tag_of}
 use Rattle.soap_writer.specs.Frame.{letter}
 use Rattle.soap_writer.specs.Plain.{is_plain_name}
 use Rattle.soap_writer.specs.ReadBack.{MayStand}

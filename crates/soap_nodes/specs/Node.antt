@@ -4,10 +4,10 @@ use Rattle.std.specs.List.{flat_map}
 use Rattle.rm_base.specs.declared.message.Binding.{Binding}
 use Rattle.soap_lex.specs.Escapes.{escaped_text}
 use Rattle.soap_document.specs.Grammar.{end_tag}
-use Rattle.soap_profile.specs.Namespaces.{xml_space}
-use Rattle.soap_profile.specs.Tree.{Element, element, Parts, none, text, child}
-use Rattle.soap_profile.specs.declared.name.Expanded.{Expanded}
-use Rattle.soap_profile.specs.declared.tree.Attr.{Attr}
+use Rattle.soap_document.specs.Profile.Namespaces.{xml_space}
+use Rattle.soap_document.specs.Profile.Tree.{Element, element, Parts, none, text, child}
+use Rattle.soap_document.specs.declared.profile.name.Expanded.{Expanded}
+use Rattle.soap_document.specs.declared.profile.tree.Attr.{Attr}
 use Rattle.soap_writer.specs.ElementText.{quoted, element_text}
 use Rattle.soap_writer.specs.Frame.{Prefix, letter, space_of}
 use Rattle.soap_writer.specs.ReadBack.{written_tree}

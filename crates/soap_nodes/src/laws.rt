@@ -2,7 +2,7 @@
 
 ghost use Rattle.std.specs.Prelude.{◌≡◌, ℕ, List, [], true, Some};
 ghost use Rattle.rm_base.specs.declared.message.Binding.{Binding};
-ghost use Rattle.soap_profile.specs.Namespaces.{bound};
+ghost use Rattle.soap_document.specs.Profile.Namespaces.{bound};
 ghost use Rattle.soap_writer.specs.Frame.{Prefix, letter, space_of};
 ghost use Rattle.soap_writer.specs.Plain.{is_plain_name};
 ghost use Rattle.soap_writer.specs.ReadBack.{ReadsAs, ContentReadsAs};

@@ -4,11 +4,11 @@ use Rattle.std.proofs.lemmas.List.{take_all}
 use Rattle.std.specs.Str.{IsUtf8}
 use Rattle.rm_base.specs.Limits.{envelope_bytes}
 use Rattle.soap_envelope.specs.declared.envelope.Envelope.{Envelope}
-use Rattle.soap_profile.specs.Answer.{same_front}
-use Rattle.soap_profile.specs.Document.{Document, IsLongestText, IsTextUpTo}
-use Rattle.soap_profile.specs.Tree.{Element}
-use Rattle.soap_profile.specs.declared.error.EnvelopeError.{EnvelopeError}
-use Rattle.soap_profile.specs.declared.error.EnvelopeError.TheVariants as Error
+use Rattle.soap_document.specs.Profile.Answer.{same_front}
+use Rattle.soap_document.specs.Profile.Document.{Document, IsLongestText, IsTextUpTo}
+use Rattle.soap_document.specs.Profile.Tree.{Element}
+use Rattle.soap_document.specs.declared.profile.error.EnvelopeError.{EnvelopeError}
+use Rattle.soap_document.specs.declared.profile.error.EnvelopeError.TheVariants as Error
 use Rattle.soap_pieces.specs.Answer.{Reads}
 
 failed : EnvelopeError → Result Envelope EnvelopeError

@@ -17,10 +17,10 @@ use Rattle.soap_envelope.specs.Soap.{soap_space}
 use Rattle.soap_envelope.specs.Steps.{Answers}
 use Rattle.soap_envelope.specs.View.{envelope_view}
 use Rattle.soap_envelope.specs.declared.envelope.Envelope.{Envelope as CodeEnvelope}
-use Rattle.soap_profile.specs.Document.{Document, IsReadable, IsTextUpTo, IsLongestText}
-use Rattle.soap_profile.specs.Tree.{Element}
-use Rattle.soap_profile.specs.declared.error.EnvelopeError.{EnvelopeError}
-use Rattle.soap_profile.specs.declared.error.EnvelopeError.TheVariants as Error
+use Rattle.soap_document.specs.Profile.Document.{Document, IsReadable, IsTextUpTo, IsLongestText}
+use Rattle.soap_document.specs.Profile.Tree.{Element}
+use Rattle.soap_document.specs.declared.profile.error.EnvelopeError.{EnvelopeError}
+use Rattle.soap_document.specs.declared.profile.error.EnvelopeError.TheVariants as Error
 use Rattle.soap_pieces.specs.Answer.{Reads}
 use Rattle.soap_pieces.specs.Behind.{IsAlike, least}
 use Rattle.soap_pieces.specs.Depth.{IsDepth}

@@ -8,8 +8,8 @@ use Rattle.soap_document.specs.Tree as written
 use Rattle.soap_document.specs.Within.{IsWithin, IsAmong, root as itself, deeper, here, behind_child, behind_text}
 use Rattle.soap_document.specs.Within.{StandsBetween}
 use Rattle.soap_envelope.specs.Envelope.{Envelope, IsEnvelope, bytes_within}
-use Rattle.soap_profile.specs.Document.{Document}
-use Rattle.soap_profile.specs.Tree.{Element}
+use Rattle.soap_document.specs.Profile.Document.{Document}
+use Rattle.soap_document.specs.Profile.Tree.{Element}
 use Rattle.soap_pieces.proofs.Behind.{Joins, IsRead, behind_run, ended_is, root_ends}
 
 -- what stands between an element's places is its content

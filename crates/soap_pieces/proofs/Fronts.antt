@@ -11,7 +11,7 @@ use Rattle.std.proofs.lemmas.Str.{IsUtf8-append, IsUtf8-drop, IsUtf8-encode, IsC
 use Rattle.std.proofs.lemmas.Str.{len_utf8_bounds}
 use Rattle.std.specs.Char.{len_utf8}
 use Rattle.std.specs.Str.{IsUtf8}
-use Rattle.soap_profile.specs.Document.{IsLongestText}
+use Rattle.soap_document.specs.Profile.Document.{IsLongestText}
 use Rattle.soap_pieces.specs.Front.{IsFront, IsStuck, IsTail}
 use Rattle.soap_pieces.specs.declared.front.Front.{Front}
 

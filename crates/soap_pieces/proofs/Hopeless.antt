@@ -10,8 +10,8 @@ use Rattle.soap_document.specs.Machine.{State, start, run, is_refused, root_of}
 use Rattle.soap_document.specs.Tree as written
 use Rattle.soap_envelope.specs.Envelope.{Envelope, IsEnvelope}
 use Rattle.soap_envelope.specs.Soap.{soap_space}
-use Rattle.soap_profile.specs.Document.{Document}
-use Rattle.soap_profile.specs.Tree.{Element}
+use Rattle.soap_document.specs.Profile.Document.{Document}
+use Rattle.soap_document.specs.Profile.Tree.{Element}
 use Rattle.soap_pieces.specs.Hopeless.{BeginsNone, BeginsOther, IsHopeless, too_long, refused, none, other}
 use Rattle.soap_pieces.proofs.Behind.{Joins, IsRead}
 use Rattle.soap_pieces.proofs.Envelopes.{Stands, envelope_on, envelope_back}

@@ -5,9 +5,9 @@ use Rattle.std.specs.Prelude.{IfOk}
 use Rattle.rm_base.specs.Limits.{envelope_bytes}
 use Rattle.soap_document.specs.Machine.{State, start, run, is_refused, root_of}
 use Rattle.soap_envelope.specs.declared.envelope.Envelope.{Envelope}
-use Rattle.soap_profile.specs.Document.{Document}
-use Rattle.soap_profile.specs.Tree.{Element}
-use Rattle.soap_profile.specs.declared.error.EnvelopeError.{EnvelopeError}
+use Rattle.soap_document.specs.Profile.Document.{Document}
+use Rattle.soap_document.specs.Profile.Tree.{Element}
+use Rattle.soap_document.specs.declared.profile.error.EnvelopeError.{EnvelopeError}
 use Rattle.soap_pieces.specs.Front.{IsFront}
 use Rattle.soap_pieces.specs.Hopeless.{BeginsNone, BeginsOther, IsHopeless, too_long, refused, none, other}
 use Rattle.soap_pieces.specs.Stage.{HasCome, HasEnded, IsInRoot, IsRefused, IsSound, IsSoundBehind, is_idle, kept_count}

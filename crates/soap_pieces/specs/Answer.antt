@@ -5,9 +5,9 @@ use Rattle.soap_envelope.specs.Refusals.{WrongVersion, NotEnvelope}
 use Rattle.soap_envelope.specs.Soap.{soap_space}
 use Rattle.soap_envelope.specs.View.{envelope_view}
 use Rattle.soap_envelope.specs.declared.envelope.Envelope.{Envelope}
-use Rattle.soap_profile.specs.Document.{IsReadable, IsTooLong, IsTextUpTo, HasNoTree}
-use Rattle.soap_profile.specs.declared.error.EnvelopeError.{EnvelopeError}
-use Rattle.soap_profile.specs.declared.error.EnvelopeError.TheVariants as Error
+use Rattle.soap_document.specs.Profile.Document.{IsReadable, IsTooLong, IsTextUpTo, HasNoTree}
+use Rattle.soap_document.specs.declared.profile.error.EnvelopeError.{EnvelopeError}
+use Rattle.soap_document.specs.declared.profile.error.EnvelopeError.TheVariants as Error
 
 -- the envelope that the bytes are, or why they are none, the first of the reasons where there are several; or memory
 -- was wanting

@@ -7,10 +7,10 @@ use Rattle.soap_document.specs.Machine.{State, start, run, is_refused, root_of}
 use Rattle.soap_document.specs.Seen.{Sees, IsTold, fed_len, is_ended}
 use Rattle.soap_document.specs.Tree as written
 use Rattle.soap_envelope.specs.declared.envelope.Envelope.{Envelope}
-use Rattle.soap_profile.specs.Fed.{IsReady, WasFed, total}
-use Rattle.soap_profile.specs.declared.document.DocumentReader.{DocumentReader}
-use Rattle.soap_profile.specs.declared.error.EnvelopeError.{EnvelopeError}
-use Rattle.soap_profile.specs.declared.error.EnvelopeError.TheVariants as Error
+use Rattle.soap_document.specs.Profile.Fed.{IsReady, WasFed, total}
+use Rattle.soap_document.specs.declared.profile.document.DocumentReader.{DocumentReader}
+use Rattle.soap_document.specs.declared.profile.error.EnvelopeError.{EnvelopeError}
+use Rattle.soap_document.specs.declared.profile.error.EnvelopeError.TheVariants as Error
 use Rattle.soap_pieces.specs.Answer.{Reads}
 use Rattle.soap_pieces.specs.Behind.{IsAlike}
 use Rattle.soap_pieces.specs.Depth.{IsDepth, open_count}

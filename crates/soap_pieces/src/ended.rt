@@ -4,8 +4,8 @@ ghost use Rattle.std.specs.Prelude.{IfSome, None, Err, true, false};
 ghost use Rattle.rm_base.specs.Limits.{envelope_bytes};
 ghost use Rattle.soap_document.specs.Machine.{State, start, run, root_of, is_refused};
 ghost use Rattle.soap_document.specs.Seen.{Sees, IsTold, fed_len};
-ghost use Rattle.soap_profile.specs.Document.{IsPlaced};
-ghost use Rattle.soap_profile.specs.View.{element_view};
+ghost use Rattle.soap_document.specs.Profile.Document.{IsPlaced};
+ghost use Rattle.soap_document.specs.Profile.View.{element_view};
 ghost use Rattle.soap_pieces.specs.Answer.{Reads};
 ghost use Rattle.soap_pieces.specs.Behind.{least};
 ghost use Rattle.soap_pieces.specs.Depth.{IsDepth, open_count};
@@ -24,7 +24,7 @@ use soap_document::laws::{
 };
 use soap_envelope::laws::one_answer;
 use soap_envelope::{Envelope, envelope_of, read_envelope};
-use soap_profile::{EnvelopeError, Placed};
+use soap_document::profile::{EnvelopeError, Placed};
 use std::alloc::Global;
 
 /// What is answered of bytes in which a root has ended, what reads on, and how much of all bytes is UTF-8.

@@ -2,14 +2,14 @@
 ghost use Rattle.std.specs.Prelude.{◌≡◌, ◌≢◌, ◌+◌, ◌++◌, ◌<◌, ◌≤◌, ◌^◌, ℕ, List, length, IfOk, OnOk, Err};
 ghost use Rattle.std.specs.Str.{IsUtf8};
 ghost use Rattle.rm_base.specs.Limits.{envelope_bytes};
-ghost use Rattle.soap_profile.specs.Document.{Document};
-ghost use Rattle.soap_profile.specs.Tree.{Element};
+ghost use Rattle.soap_document.specs.Profile.Document.{Document};
+ghost use Rattle.soap_document.specs.Profile.Tree.{Element};
 ghost use Rattle.soap_pieces.specs.Answer.{Reads};
 ghost use Rattle.soap_pieces.specs.Front.{IsFront, IsTail, front_len, tail_len};
 
 use rm_base::{Blob, Memory};
 use soap_lex::utf8_prefix;
-use soap_profile::EnvelopeError;
+use soap_document::profile::EnvelopeError;
 use std::alloc::Global;
 
 /// The length of the longest front of some bytes that is UTF-8, and what stands behind it, where more bytes may make a

@@ -2,8 +2,8 @@
 
 ghost use Rattle.std.specs.Prelude.{◌≤◌, ◌++◌, ℕ, List, length};
 ghost use Rattle.rm_base.specs.Limits.{envelope_bytes};
-ghost use Rattle.soap_profile.specs.Document.{Document};
-ghost use Rattle.soap_profile.specs.Tree.{Element};
+ghost use Rattle.soap_document.specs.Profile.Document.{Document};
+ghost use Rattle.soap_document.specs.Profile.Tree.{Element};
 ghost use Rattle.soap_pieces.specs.Hopeless.{BeginsNone, IsHopeless};
 ghost use Rattle.soap_envelope.specs.Envelope.{Envelope, IsEnvelope};
 ghost use Rattle.soap_envelope.specs.Soap.{soap_space};

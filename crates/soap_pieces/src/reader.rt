@@ -29,7 +29,7 @@ use crate::stage::Stage;
 use rm_base::Memory;
 use soap_document::laws::{content_stands_between, document_is_read, pieces_are_joined};
 use soap_envelope::Envelope;
-use soap_profile::EnvelopeError;
+use soap_document::profile::EnvelopeError;
 use std::alloc::Global;
 use std::mem;
 

@@ -2,9 +2,9 @@
 ghost use Rattle.std.specs.Prelude.{◌≡◌, ◌≢◌, ◌↔◌, ◌+◌, ◌++◌, ◌<◌, ◌≤◌, ◌^◌, ℕ, List, [], length, IsTrue, IfOk, IsErr};
 ghost use Rattle.std.specs.Prelude.{Err, true, false};
 ghost use Rattle.rm_base.specs.Limits.{envelope_bytes};
-ghost use Rattle.soap_profile.specs.Fed.{IsReady, WasFed, total};
-ghost use Rattle.soap_profile.specs.Document.{Document};
-ghost use Rattle.soap_profile.specs.Tree.{Element};
+ghost use Rattle.soap_document.specs.Profile.Fed.{IsReady, WasFed, total};
+ghost use Rattle.soap_document.specs.Profile.Document.{Document};
+ghost use Rattle.soap_document.specs.Profile.Tree.{Element};
 ghost use Rattle.soap_pieces.specs.Answer.{Reads};
 ghost use Rattle.soap_pieces.specs.Hopeless.{IsHopeless};
 ghost use Rattle.soap_pieces.specs.Stage.{HasCome, IsInRoot, IsRefused, IsSound, IsSoundRoot, is_out, kept_count};
@@ -19,7 +19,7 @@ use soap_document::Reader;
 use soap_document::laws::{document_is_read, pieces_are_joined, refused_stays};
 use soap_envelope::Envelope;
 use soap_lex::{first_byte, utf8_prefix};
-use soap_profile::{DocumentReader, EnvelopeError};
+use soap_document::profile::{DocumentReader, EnvelopeError};
 use std::alloc::Global;
 
 /// How far it has come with what it was fed.

@@ -7,10 +7,10 @@ use Rattle.soap_document.specs.Grammar.{IsElement, full, empty, IsContent, last,
 use Rattle.soap_document.specs.Grammar.{IsDocument, document, start_tag, end_tag, empty_tag}
 use Rattle.soap_document.specs.Tree as written
 use Rattle.soap_document.specs.declared.attribute.WrittenAttribute.{WrittenAttribute}
-use Rattle.soap_profile.specs.Document.{Document}
-use Rattle.soap_profile.specs.Namespaces.{Resolved, tag_of, joined, resolve, resolve_parts}
-use Rattle.soap_profile.specs.Payload.{depth as nested}
-use Rattle.soap_profile.specs.Tree.{Element, element, Parts, none, text, child, parts_without}
+use Rattle.soap_document.specs.Profile.Document.{Document}
+use Rattle.soap_document.specs.Profile.Namespaces.{Resolved, tag_of, joined, resolve, resolve_parts}
+use Rattle.soap_document.specs.Profile.Payload.{depth as nested}
+use Rattle.soap_document.specs.Profile.Tree.{Element, element, Parts, none, text, child, parts_without}
 use Rattle.rm_base.specs.declared.message.Binding.{Binding}
 use Rattle.soap_writer.specs.Writable.{NoText, ArePartsWritable}
 use Rattle.soap_stripped.specs.Resolved.{AreInForce, PartsDeclare, IsResolved}

@@ -9,7 +9,7 @@ use Rattle.soap_lex.specs.Facts.{all_weaker}
 use Rattle.soap_lex.specs.NameBytes.{IsNameByte, name_bytes}
 use Rattle.soap_document.specs.Cuts.{cut_none, cut-append}
 use Rattle.soap_document.specs.Grammar.{IsQName, unprefixed, prefixed}
-use Rattle.soap_profile.specs.Namespaces.{split}
+use Rattle.soap_document.specs.Profile.Namespaces.{split}
 
 -- a local name, which is all of it where there is no prefix
 pub record IsParted (name : List ℕ) : Type 0 where

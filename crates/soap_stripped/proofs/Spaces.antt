@@ -9,11 +9,13 @@ use Rattle.soap_lex.specs.Facts.{same, equal}
 use Rattle.soap_lex.specs.Tests.{is_nil}
 use Rattle.soap_document.specs.Grammar.{IsQName}
 use Rattle.soap_document.specs.declared.attribute.WrittenAttribute.{WrittenAttribute}
-use Rattle.soap_profile.specs.Namespaces.{xml_space, xmlns_space, split, declared_prefix, may_bind, with_declaration}
-use Rattle.soap_profile.specs.Namespaces.{declarations, bound, prefix_space, or_none, element_space, attribute_space}
-use Rattle.soap_profile.specs.Namespaces.{named, element_name, attribute_name}
+use Rattle.soap_document.specs.Profile.Namespaces.{xml_space, xmlns_space, split, declared_prefix, may_bind}
+use Rattle.soap_document.specs.Profile.Namespaces.{with_declaration}
+use Rattle.soap_document.specs.Profile.Namespaces.{declarations, bound, prefix_space, or_none, element_space}
+use Rattle.soap_document.specs.Profile.Namespaces.{attribute_space}
+use Rattle.soap_document.specs.Profile.Namespaces.{named, element_name, attribute_name}
 use Rattle.rm_base.specs.declared.message.Binding.{Binding}
-use Rattle.soap_profile.specs.declared.name.Expanded.{Expanded}
+use Rattle.soap_document.specs.declared.profile.name.Expanded.{Expanded}
 use Rattle.soap_writer.specs.Plain.{chars_from, name_from}
 use Rattle.soap_writer.specs.ReadBack.{IsAttributeWritten}
 use Rattle.soap_writer.specs.Writable.{IsNameWritable, IsAttrWritable}

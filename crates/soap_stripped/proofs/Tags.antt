@@ -5,12 +5,13 @@ use Rattle.std.specs.List.{AllByRecursion}
 use Rattle.std.proofs.lemmas.List.{length-append}
 use Rattle.soap_document.specs.Grammar.{IsQName, IsAttributes, end, more}
 use Rattle.soap_document.specs.declared.attribute.WrittenAttribute.{WrittenAttribute}
-use Rattle.soap_profile.specs.Namespaces.{declared_prefix, declarations, element_name, attribute_name}
-use Rattle.soap_profile.specs.Namespaces.{unless_declared, expanded, are_distinct, are_distinct_names, Resolved}
-use Rattle.soap_profile.specs.Namespaces.{resolved_with, declaring, tag_of}
+use Rattle.soap_document.specs.Profile.Namespaces.{declared_prefix, declarations, element_name, attribute_name}
+use Rattle.soap_document.specs.Profile.Namespaces.{unless_declared, expanded, are_distinct, are_distinct_names}
+use Rattle.soap_document.specs.Profile.Namespaces.{Resolved}
+use Rattle.soap_document.specs.Profile.Namespaces.{resolved_with, declaring, tag_of}
 use Rattle.rm_base.specs.declared.message.Binding.{Binding}
-use Rattle.soap_profile.specs.declared.name.Expanded.{Expanded}
-use Rattle.soap_profile.specs.declared.tree.Attr.{Attr}
+use Rattle.soap_document.specs.declared.profile.name.Expanded.{Expanded}
+use Rattle.soap_document.specs.declared.profile.tree.Attr.{Attr}
 use Rattle.soap_writer.specs.ReadBack.{IsAttributeWritten}
 use Rattle.soap_writer.specs.Writable.{IsNameWritable, IsAttrWritable}
 use Rattle.soap_stripped.specs.Resolved.{IsBinding, AreInForce}

@@ -5,9 +5,9 @@ use Rattle.std.specs.List.{AllByRecursion}
 use Rattle.soap_document.specs.Grammar.{max_depth}
 use Rattle.soap_lex.specs.Characters.{IsChars, IsName}
 use Rattle.soap_lex.specs.Tests.{is_nil}
-use Rattle.soap_profile.specs.Namespaces.{xmlns_space, bound, may_bind}
-use Rattle.soap_profile.specs.Payload.{height}
-use Rattle.soap_profile.specs.Tree.{Element, element, Parts, none, text, child, without_declarations}
+use Rattle.soap_document.specs.Profile.Namespaces.{xmlns_space, bound, may_bind}
+use Rattle.soap_document.specs.Profile.Payload.{height}
+use Rattle.soap_document.specs.Profile.Tree.{Element, element, Parts, none, text, child, without_declarations}
 use Rattle.rm_base.specs.declared.message.Binding.{Binding}
 use Rattle.soap_writer.specs.Writable.{IsWritable}
 

@@ -5,11 +5,11 @@ use Rattle.std.specs.List.{AllByRecursion}
 use Rattle.std.specs.Str.{bytes_eq}
 use Rattle.soap_document.specs.Grammar.{max_depth}
 use Rattle.soap_lex.specs.Facts.{same}
-use Rattle.soap_profile.specs.Namespaces.{bound}
-use Rattle.soap_profile.specs.Payload.{depth as nested}
-use Rattle.soap_profile.specs.Tree.{Element, element, Parts, none, text, child, parts_without, parts_of}
+use Rattle.soap_document.specs.Profile.Namespaces.{bound}
+use Rattle.soap_document.specs.Profile.Payload.{depth as nested}
+use Rattle.soap_document.specs.Profile.Tree.{Element, element, Parts, none, text, child, parts_without, parts_of}
 use Rattle.rm_base.specs.declared.message.Binding.{Binding}
-use Rattle.soap_profile.specs.Tree.{children_of}
+use Rattle.soap_document.specs.Profile.Tree.{children_of}
 use Rattle.soap_writer.specs.Writable.{ArePartsWritable}
 use Rattle.soap_stripped.specs.Resolved.{IsBindable, IsBinding, AreInForce, PartsDeclare, IsResolved}
 

@@ -3,10 +3,10 @@
 ghost use Rattle.std.specs.Prelude.{◌≡◌, ◌<◌, ◌^◌, ℕ, List, length, Some};
 ghost use Rattle.rm_base.specs.declared.message.Binding.{Binding};
 ghost use Rattle.soap_document.specs.Grammar.{IsQName};
-ghost use Rattle.soap_profile.specs.Document.{Document};
-ghost use Rattle.soap_profile.specs.Namespaces.{element_name};
-ghost use Rattle.soap_profile.specs.Tree.{Element};
-ghost use Rattle.soap_profile.specs.declared.name.Expanded.{Expanded};
+ghost use Rattle.soap_document.specs.Profile.Document.{Document};
+ghost use Rattle.soap_document.specs.Profile.Namespaces.{element_name};
+ghost use Rattle.soap_document.specs.Profile.Tree.{Element};
+ghost use Rattle.soap_document.specs.declared.profile.name.Expanded.{Expanded};
 ghost use Rattle.soap_writer.specs.Writable.{IsNameWritable};
 ghost use Rattle.soap_stripped.specs.Resolved.{AreInForce, IsResolved};
 

@@ -3,7 +3,7 @@ use crate::envelope::{REQUEST, REQUEST_SHOWN, shown_envelope};
 use rm_base::Memory;
 use soap_envelope::Envelope;
 use soap_pieces::EnvelopeReader;
-use soap_profile::EnvelopeError;
+use soap_document::profile::EnvelopeError;
 use std::alloc::Global;
 
 const SHORT: &[u8] =

@@ -1,7 +1,7 @@
-//! Tests of `soap_profile`.
+//! Tests of `soap_document::profile`.
 use rm_base::limits::ENVELOPE_BYTES;
 use rm_base::{Blob, Bytes, Memory, push_decimal};
-use soap_profile::{
+use soap_document::profile::{
     Attr, Attrs, Element, EnvelopeError, Item, Name, Parts, Shared, check_payload, is_part,
     read_element, strip,
 };

@@ -1,6 +1,6 @@
 //! Elements, written.
 use rm_base::{Blob, Memory};
-use soap_profile::{Element, EnvelopeError, read_element, strip};
+use soap_document::profile::{Element, EnvelopeError, read_element, strip};
 use soap_writer::write_element;
 use std::alloc::Global;
 

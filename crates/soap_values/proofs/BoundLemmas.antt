@@ -4,11 +4,11 @@ use Rattle.std.proofs.Common.{if◌then◌else◌, Option, Some, None, refl, ap,
 use Rattle.std.proofs.lemmas.List.{drop_more}
 use Rattle.std.specs.Borrow.{Bor}
 use Rattle.std.specs.Str.{bytes_eq}
-use Rattle.soap_profile.specs.Namespaces.{bound}
-use Rattle.soap_profile.specs.Tree.{Element, decls_of}
+use Rattle.soap_document.specs.Profile.Namespaces.{bound}
+use Rattle.soap_document.specs.Profile.Tree.{Element, decls_of}
 use Rattle.rm_base.specs.declared.message.Binding.{Binding}
-use Rattle.soap_profile.specs.View.{element_view, decls_view}
-use Rattle.soap_profile.specs.declared.tree.Element.{Element as CodeElement}
+use Rattle.soap_document.specs.Profile.View.{element_view, decls_view}
+use Rattle.soap_document.specs.declared.profile.tree.Element.{Element as CodeElement}
 use Rattle.soap_values.specs.ChildLaws.{element_is}
 use Rattle.soap_values.specs.QNames.{within}
 use Rattle.soap_values.specs.Steps.{lent_trees}

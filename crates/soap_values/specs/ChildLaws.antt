@@ -1,12 +1,12 @@
 -- Laws: an element as what it has, and one item before others.
 use Rattle.std.proofs.Common.{◌≡◌, ◌++◌, List, [], ◌∷◌, Bool, true, false, if◌then◌else◌, refl}
-use Rattle.soap_profile.specs.Items.{Item, a_declaration, an_attribute, a_text, a_child, parts_among}
-use Rattle.soap_profile.specs.Tree.{Element, element, children_of}
-use Rattle.soap_profile.specs.declared.name.Expanded.{Expanded}
-use Rattle.soap_profile.specs.View.{element_view, element_step, item_step, item_view, items_view, decls_view}
-use Rattle.soap_profile.specs.View.{attrs_view, parts_view}
-use Rattle.soap_profile.specs.declared.tree.Element.{Element as CodeElement, fold_out-Element}
-use Rattle.soap_profile.specs.declared.tree.Item.{Item as CodeItem}
+use Rattle.soap_document.specs.Profile.Items.{Item, a_declaration, an_attribute, a_text, a_child, parts_among}
+use Rattle.soap_document.specs.Profile.Tree.{Element, element, children_of}
+use Rattle.soap_document.specs.declared.profile.name.Expanded.{Expanded}
+use Rattle.soap_document.specs.Profile.View.{element_view, element_step, item_step, item_view, items_view, decls_view}
+use Rattle.soap_document.specs.Profile.View.{attrs_view, parts_view}
+use Rattle.soap_document.specs.declared.profile.tree.Element.{Element as CodeElement, fold_out-Element}
+use Rattle.soap_document.specs.declared.profile.tree.Item.{Item as CodeItem}
 use Rattle.soap_values.specs.Children.{children_named, has_name}
 
 -- an element is seen as its name, its declarations, its attributes and its parts

@@ -3,10 +3,10 @@ use Rattle.std.specs.Prelude.{ℕ, List, ◌++◌, Bool, not, ◌&&◌, if◌the
 use Rattle.std.specs.List.{flat_map}
 use Rattle.std.specs.Str.{bytes_eq}
 use Rattle.soap_document.specs.Tokens.{is_qname}
-use Rattle.soap_profile.specs.Namespaces.{split, element_name}
-use Rattle.soap_profile.specs.Tree.{Element, decls_of}
+use Rattle.soap_document.specs.Profile.Namespaces.{split, element_name}
+use Rattle.soap_document.specs.Profile.Tree.{Element, decls_of}
 use Rattle.rm_base.specs.declared.message.Binding.{Binding}
-use Rattle.soap_profile.specs.declared.name.Expanded.{Expanded}
+use Rattle.soap_document.specs.declared.profile.name.Expanded.{Expanded}
 
 -- the bindings in force within elements, the innermost of which comes first, around which these are in force
 abbrev pub within : List Element → List Binding → List Binding

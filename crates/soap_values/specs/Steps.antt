@@ -3,9 +3,9 @@ use Rattle.std.specs.Prelude.{◌≡◌, List, [], ◌∷◌, ◌++◌, Option, 
 use Rattle.std.specs.Borrow.{Bor}
 use Rattle.rm_base.specs.declared.text.TextError.{TextError}
 use Rattle.rm_base.specs.declared.text.TextError.TheVariants as texts
-use Rattle.soap_profile.specs.Tree.{Element}
-use Rattle.soap_profile.specs.View.{element_view}
-use Rattle.soap_profile.specs.declared.tree.Element.{Element as CodeElement}
+use Rattle.soap_document.specs.Profile.Tree.{Element}
+use Rattle.soap_document.specs.Profile.View.{element_view}
+use Rattle.soap_document.specs.declared.profile.tree.Element.{Element as CodeElement}
 use Rattle.soap_values.specs.declared.flaw.Flaw.{Flaw}
 use Rattle.soap_values.specs.declared.flaw.Flaw.TheVariants.{Memory, Malformed}
 

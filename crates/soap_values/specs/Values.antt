@@ -6,7 +6,7 @@ use Rattle.std.specs.Str.Parse.{digits_value, without_leading_plus}
 use Rattle.xml_chars.specs.Classes.{is_space}
 use Rattle.rm_base.specs.Text.{is_text}
 use Rattle.soap_lex.specs.Tests.{is_nil}
-use Rattle.soap_profile.specs.Tree.{Element, parts_of}
+use Rattle.soap_document.specs.Profile.Tree.{Element, parts_of}
 use Rattle.soap_values.specs.Children.{text_among}
 use Rattle.soap_values.specs.Outcome.{◌>>=◌}
 

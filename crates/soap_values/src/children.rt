@@ -1,12 +1,12 @@
 //! The children of an element by name.
 ghost use Rattle.std.specs.Prelude.{◌≡◌, ◌∷◌, [], option_map, Some};
-ghost use Rattle.soap_profile.specs.View.{element_view, parts_view};
+ghost use Rattle.soap_document.specs.Profile.View.{element_view, parts_view};
 ghost use Rattle.soap_values.specs.Children.{name_in, children_named, is_same};
 ghost use Rattle.soap_values.specs.Outcome.{Gives, optional, single};
 ghost use Rattle.soap_values.specs.Steps.{listed, lent_trees};
 
 use crate::flaw::Flaw;
-use soap_profile::{Element, Item, Name};
+use soap_document::profile::{Element, Item, Name};
 use std::alloc::Global;
 
 /// Whether a name is this one.

@@ -1,14 +1,14 @@
 //! The text of an element and the values of its attributes.
 ghost use Rattle.std.specs.Cow.{cow_slice_items};
 ghost use Rattle.std.specs.Prelude.{◌≡◌, option_map, map};
-ghost use Rattle.soap_profile.specs.View.{element_view, parts_view, attrs_view};
+ghost use Rattle.soap_document.specs.Profile.View.{element_view, parts_view, attrs_view};
 ghost use Rattle.soap_values.specs.Children.{name_in, text_among, value_among};
 ghost use Rattle.soap_values.specs.Outcome.{Gives};
 ghost use Rattle.soap_values.specs.Values.{trimmed, trimmed_start, trimmed_end, trimmed_text, is_true};
 
 use crate::children::is_named;
 use crate::flaw::Flaw;
-use soap_profile::{Element, Item};
+use soap_document::profile::{Element, Item};
 use std::alloc::Global;
 use std::borrow::CowSlice;
 use xml_chars::is_space;

@@ -1,7 +1,7 @@
 //! Names in values, read by the bindings in force where they stand: Namespaces in XML 1.0, section 6.
 ghost use Rattle.std.specs.Prelude.{◌≡◌, option_map};
-ghost use Rattle.soap_profile.specs.Namespaces.{split as split_of, bound as bound_by, element_space};
-ghost use Rattle.soap_profile.specs.View.{decls_view};
+ghost use Rattle.soap_document.specs.Profile.Namespaces.{split as split_of, bound as bound_by, element_space};
+ghost use Rattle.soap_document.specs.Profile.View.{decls_view};
 ghost use Rattle.soap_values.specs.Outcome.{Gives};
 ghost use Rattle.soap_values.specs.QNames.{within, is_name_value as name_test, qname_in};
 ghost use Rattle.soap_values.specs.Steps.{lent_trees};
@@ -9,7 +9,7 @@ ghost use Rattle.soap_values.specs.Steps.{lent_trees};
 use crate::flaw::Flaw;
 use rm_base::Binding;
 use soap_document::{cut, is_qname};
-use soap_profile::{Element, Item, Name, Shared, XML_SPACE};
+use soap_document::profile::{Element, Item, Name, Shared, XML_SPACE};
 use std::alloc::Global;
 
 /// The name that bytes are within these elements, the innermost of which comes first, around which the outer bindings

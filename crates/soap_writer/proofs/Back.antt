@@ -11,14 +11,16 @@ use Rattle.soap_lex.specs.Escapes.{escaped_text}
 use Rattle.soap_document.specs.Grammar.{IsQName, full, IsContent, last, more, start_tag, max_depth, IsDocument}
 use Rattle.soap_document.specs.Grammar.{document, unmarked, without, white}
 use Rattle.soap_document.specs.Tree as written
-use Rattle.soap_profile.specs.Document.{Document}
+use Rattle.soap_document.specs.Profile.Document.{Document}
 use Rattle.rm_base.specs.declared.message.Binding.{Binding}
-use Rattle.soap_profile.specs.Namespaces.{bound, declarations, resolve_parts, joined, Resolved, tag_of, declaring}
-use Rattle.soap_profile.specs.Namespaces.{resolved_with, are_distinct_names}
-use Rattle.soap_profile.specs.Payload.{height, depth as depth_of_parts}
-use Rattle.soap_profile.specs.Tree.{Element, element, Parts, none, text, child, without_declarations, parts_without}
-use Rattle.soap_profile.specs.declared.name.Expanded.{Expanded}
-use Rattle.soap_profile.specs.declared.tree.Attr.{Attr}
+use Rattle.soap_document.specs.Profile.Namespaces.{bound, declarations, resolve_parts, joined, Resolved, tag_of}
+use Rattle.soap_document.specs.Profile.Namespaces.{declaring}
+use Rattle.soap_document.specs.Profile.Namespaces.{resolved_with, are_distinct_names}
+use Rattle.soap_document.specs.Profile.Payload.{height, depth as depth_of_parts}
+use Rattle.soap_document.specs.Profile.Tree.{Element, element, Parts, none, text, child, without_declarations}
+use Rattle.soap_document.specs.Profile.Tree.{parts_without}
+use Rattle.soap_document.specs.declared.profile.name.Expanded.{Expanded}
+use Rattle.soap_document.specs.declared.profile.tree.Attr.{Attr}
 use Rattle.soap_writer.specs.ElementText.{written_name, tag_text, element_text, parts_text}
 use Rattle.soap_writer.specs.ReadBack.{with_mark, MarkFits, MayStand, ReadsAs, ContentReadsAs, marks, declared_in}
 use Rattle.soap_writer.specs.ReadBack.{written_tree, written_parts, elements_text, content_of}

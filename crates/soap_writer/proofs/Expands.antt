@@ -9,11 +9,13 @@ use Rattle.soap_lex.specs.Characters.{IsName}
 use Rattle.soap_document.specs.declared.attribute.WrittenAttribute.{WrittenAttribute}
 use Rattle.soap_lex.specs.Tests.{is_nil}
 use Rattle.soap_lex.specs.Facts.{differ, equal}
-use Rattle.soap_profile.specs.Namespaces.{xmlns_space, split, declared_prefix, may_bind, declarations, bound, named}
-use Rattle.soap_profile.specs.Namespaces.{or_none, attribute_space, element_space, attribute_name, element_name}
-use Rattle.soap_profile.specs.Namespaces.{expanded}
-use Rattle.soap_profile.specs.declared.name.Expanded.{Expanded}
-use Rattle.soap_profile.specs.declared.tree.Attr.{Attr}
+use Rattle.soap_document.specs.Profile.Namespaces.{xmlns_space, split, declared_prefix, may_bind, declarations, bound}
+use Rattle.soap_document.specs.Profile.Namespaces.{named}
+use Rattle.soap_document.specs.Profile.Namespaces.{or_none, attribute_space, element_space, attribute_name}
+use Rattle.soap_document.specs.Profile.Namespaces.{element_name}
+use Rattle.soap_document.specs.Profile.Namespaces.{expanded}
+use Rattle.soap_document.specs.declared.profile.name.Expanded.{Expanded}
+use Rattle.soap_document.specs.declared.profile.tree.Attr.{Attr}
 use Rattle.rm_base.specs.declared.message.Binding.{Binding}
 use Rattle.soap_writer.specs.Frame.{addressing_space}
 use Rattle.soap_writer.specs.ElementText.{attribute_prefix, written_name}

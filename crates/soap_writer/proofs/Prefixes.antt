@@ -15,7 +15,7 @@ use Rattle.soap_lex.specs.Characters.{IsName, IsChars}
 use Rattle.soap_lex.specs.Facts.{all_weaker}
 use Rattle.soap_document.specs.Cuts.{cut_none, cut-append}
 use Rattle.soap_lex.specs.NameBytes.{IsNameByte, name_bytes}
-use Rattle.soap_profile.specs.Namespaces.{split}
+use Rattle.soap_document.specs.Profile.Namespaces.{split}
 use Rattle.soap_writer.specs.ElementText.{attribute_prefix}
 use Rattle.soap_writer.specs.Plain.{name_from, chars_from}
 

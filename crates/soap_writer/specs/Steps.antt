@@ -1,7 +1,7 @@
 -- What writers of pieces leave.
 use Rattle.std.specs.Prelude.{◌≡◌, ℕ, List, [], ◌++◌, false, codes}
 use Rattle.soap_lex.specs.Escapes.{escaped_text}
-use Rattle.soap_profile.specs.Items.{Item, a_declaration, an_attribute, a_text, a_child}
+use Rattle.soap_document.specs.Profile.Items.{Item, a_declaration, an_attribute, a_text, a_child}
 use Rattle.soap_writer.specs.ElementText.{attribute_prefix, element_text}
 use Rattle.soap_writer.specs.declared.tags.Prefix.{Prefix}
 use Rattle.soap_writer.specs.declared.tags.Prefix.TheVariants.{OfElement, OfAttribute}

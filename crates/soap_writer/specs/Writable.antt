@@ -2,11 +2,11 @@
 use Rattle.std.specs.Prelude.{◌≡◌, ◌≢◌, ℕ, ◌<◌, ◌^◌, List, [], true, codes, length}
 use Rattle.std.specs.List.{AllByRecursion}
 use Rattle.soap_lex.specs.Characters.{IsName, IsChars}
-use Rattle.soap_profile.specs.Namespaces.{xmlns_space, are_distinct_names}
+use Rattle.soap_document.specs.Profile.Namespaces.{xmlns_space, are_distinct_names}
 use Rattle.rm_base.specs.declared.message.Binding.{Binding}
-use Rattle.soap_profile.specs.Tree.{Element, element, Parts, none, text, child}
-use Rattle.soap_profile.specs.declared.name.Expanded.{Expanded}
-use Rattle.soap_profile.specs.declared.tree.Attr.{Attr}
+use Rattle.soap_document.specs.Profile.Tree.{Element, element, Parts, none, text, child}
+use Rattle.soap_document.specs.declared.profile.name.Expanded.{Expanded}
+use Rattle.soap_document.specs.declared.profile.tree.Attr.{Attr}
 
 -- a local name without a colon, and a namespace of characters that is not the one of xmlns (Namespaces 3)
 pub record IsNameWritable (name : Expanded) : Type 0 where

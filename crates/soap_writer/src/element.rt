@@ -1,13 +1,13 @@
 //! The writer of elements.
 ghost use Rattle.std.specs.Prelude.{◌≡◌, ◌++◌, OnOk, OnErr};
-ghost use Rattle.soap_profile.specs.View.{element_view, item_view, parts_view};
+ghost use Rattle.soap_document.specs.Profile.View.{element_view, item_view, parts_view};
 ghost use Rattle.soap_writer.specs.ElementText.{element_text, parts_text};
 ghost use Rattle.soap_writer.specs.Steps.{Grows, part_text};
 
 use crate::tags::{push_end_tag, push_start_tag};
 use crate::text::push_text;
 use rm_base::{Blob, Memory};
-use soap_profile::{Element, Item};
+use soap_document::profile::{Element, Item};
 use std::alloc::Global;
 use std::mem;
 

@@ -1,7 +1,7 @@
 //! The pieces of a start tag. Each writer appends its piece, up to a want of memory.
 ghost use Rattle.std.specs.Prelude.{◌≡◌, ◌<◌, ◌+◌, ◌^◌, [], ◌∷◌, ◌++◌, length, codes, IfOk, OnOk, OnErr};
 ghost use Rattle.soap_document.specs.Grammar.{start_tag, end_tag};
-ghost use Rattle.soap_profile.specs.View.{attrs_view};
+ghost use Rattle.soap_document.specs.Profile.View.{attrs_view};
 ghost use Rattle.soap_writer.specs.ElementText.{written_name, declaration, attribute_text, attributes_text};
 ghost use Rattle.soap_writer.specs.ElementText.{mark, tag_text};
 ghost use Rattle.soap_writer.specs.Steps.{Grows, prefix_text};
@@ -9,7 +9,7 @@ ghost use Rattle.soap_writer.specs.Steps.{Grows, prefix_text};
 use crate::text::{push_bytes, push_quoted};
 use itoa::Buffer;
 use rm_base::Memory;
-use soap_profile::{Attr, Item, Name};
+use soap_document::profile::{Attr, Item, Name};
 
 // The prefix that the namespace of a name is bound to.
 #[derive(Clone, Copy, Debug)]

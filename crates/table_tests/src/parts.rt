@@ -3,7 +3,7 @@
 use node_tables::Tables;
 use record_batch::Record;
 use rm_base::{Blob, Ident, Items, Lapse, Payload, Uri};
-use soap_profile::Elements;
+use soap_document::profile::Elements;
 use std::alloc::Global;
 use std::test::Fail;
 use wsa_headers::Epr;

@@ -48,7 +48,7 @@ pub struct Known<'a> {
 impl<'a> Model for Known<'a> {
     ghost use Rattle.std.specs.Prelude.{map};
     ghost use Rattle.std.specs.Coded.{codes};
-    ghost use Rattle.soap_profile.specs.TreeCode.{tree_code};
+    ghost use Rattle.soap_document.specs.Profile.TreeCode.{tree_code};
     ghost use Rattle.record_batch.specs.Fact.{fact_of};
     ghost use Rattle.tables_ahead.specs.Known.{KnownRecords, IsAhead};
 

@@ -5,7 +5,7 @@ use message_reader::decode;
 use rm_base::{Blob, Ident, Memory, TextError, Uri};
 use rm_elements::{AckBlock, AckKind, Ranges};
 use rm_message::{Acks, Body, Idents, Message, Names};
-use soap_profile::Elements;
+use soap_document::profile::Elements;
 use std::alloc::Global;
 use wsa_headers::Addressing;
 

@@ -6,7 +6,7 @@ use message_writer::fault_message;
 use rm_base::{Blob, Ident, Memory, TextError, Uri};
 use rm_elements::{AckBlock, AckKind, Ranges};
 use rm_message::{FaultKind, Names, Refusal};
-use soap_profile::{Elements, Name, Shared};
+use soap_document::profile::{Elements, Name, Shared};
 use std::alloc::Global;
 use wsa_headers::Epr;
 

@@ -5,7 +5,7 @@ use Rattle.std.specs.List.{AllByRecursion, filter}
 use Rattle.std.specs.Prelude.{IfSome}
 use Rattle.std.specs.Str.{bytes_eq}
 use Rattle.rm_base.specs.Text.{IsText}
-use Rattle.soap_profile.specs.Tree.{Element, element, none, text, name_of, children_of}
+use Rattle.soap_document.specs.Profile.Tree.{Element, element, none, text, name_of, children_of}
 use Rattle.soap_writer.specs.Frame.{addressing_space}
 use Rattle.soap_writer.specs.ReadBack.{written_tree}
 use Rattle.soap_nodes.specs.Node.{Nodes, nodes_tree}

@@ -3,7 +3,7 @@ use Rattle.std.proofs.Common.{ℕ, suc, ◌+◌, ◌≤◌, Bool, true, false, L
 use Rattle.std.specs.List.{AllByRecursion}
 use Rattle.std.specs.Prelude.{IfSome}
 use Rattle.rm_base.specs.Text.{IsText}
-use Rattle.soap_profile.specs.Tree.{Element}
+use Rattle.soap_document.specs.Profile.Tree.{Element}
 use Rattle.soap_writer.specs.Frame.{frame_scope}
 use Rattle.soap_writer.specs.ReadBack.{MarkFits}
 use Rattle.soap_nodes.specs.Good.{IsTagGood, IsGood, AreGood}

@@ -1,9 +1,9 @@
 -- One header block before others.
 use Rattle.std.proofs.Common.{◌≡◌, ◌++◌, List, [], ◌∷◌, ℕ, Bool, true, false, if◌then◌else◌, refl, map}
 use Rattle.std.specs.List.{filter}
-use Rattle.soap_profile.specs.Tree.{Element}
-use Rattle.soap_profile.specs.View.{element_view}
-use Rattle.soap_profile.specs.declared.tree.Element.{Element as CodeElement}
+use Rattle.soap_document.specs.Profile.Tree.{Element}
+use Rattle.soap_document.specs.Profile.View.{element_view}
+use Rattle.soap_document.specs.declared.profile.tree.Element.{Element as CodeElement}
 use Rattle.wsa_headers.specs.Addressing.{is_header, is_marked, blocks_named, params_of}
 use Rattle.wsa_headers.specs.Endpoint.{param}
 

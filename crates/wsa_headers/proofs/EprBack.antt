@@ -5,10 +5,11 @@ use Rattle.std.specs.List.{AllByRecursion, filter, list_all}
 use Rattle.std.proofs.lemmas.Bool.{and_parts, le-leb}
 use Rattle.std.proofs.lemmas.List.{append-nil}
 use Rattle.rm_base.specs.Text.{IsText}
-use Rattle.soap_profile.specs.Namespaces.{is_new_name}
-use Rattle.soap_profile.specs.Payload.{height}
-use Rattle.soap_profile.specs.Tree.{Element, element, Parts, none, text, without_declarations, attrs_of, children_of}
-use Rattle.soap_profile.specs.declared.tree.Attr.{Attr}
+use Rattle.soap_document.specs.Profile.Namespaces.{is_new_name}
+use Rattle.soap_document.specs.Profile.Payload.{height}
+use Rattle.soap_document.specs.Profile.Tree.{Element, element, Parts, none, text, without_declarations, attrs_of}
+use Rattle.soap_document.specs.Profile.Tree.{children_of}
+use Rattle.soap_document.specs.declared.profile.tree.Attr.{Attr}
 use Rattle.soap_writer.specs.ReadBack.{with_mark, written_tree}
 use Rattle.soap_writer.specs.Writable.{IsWritable}
 use Rattle.soap_nodes.specs.Node.{more, leaf, nodes_tree}

@@ -1,13 +1,14 @@
 -- An element without its mark.
 use Rattle.std.proofs.Common.{◌≡◌, List, [], ◌∷◌, Bool, true, false, not, if◌then◌else◌, refl, ap, ◌∙◌}
 use Rattle.std.specs.List.{filter}
-use Rattle.soap_profile.specs.Items.{Item, a_declaration, an_attribute, a_text, a_child, decls_among, attrs_among}
-use Rattle.soap_profile.specs.Items.{parts_among}
-use Rattle.soap_profile.specs.Tree.{element, text, child}
-use Rattle.soap_profile.specs.declared.name.Expanded.{Expanded}
-use Rattle.soap_profile.specs.declared.tree.Attr.{Attr}
-use Rattle.soap_profile.specs.View.{items_view}
-use Rattle.soap_profile.specs.declared.tree.Item.{Item as CodeItem}
+use Rattle.soap_document.specs.Profile.Items.{Item, a_declaration, an_attribute, a_text, a_child, decls_among}
+use Rattle.soap_document.specs.Profile.Items.{attrs_among}
+use Rattle.soap_document.specs.Profile.Items.{parts_among}
+use Rattle.soap_document.specs.Profile.Tree.{element, text, child}
+use Rattle.soap_document.specs.declared.profile.name.Expanded.{Expanded}
+use Rattle.soap_document.specs.declared.profile.tree.Attr.{Attr}
+use Rattle.soap_document.specs.Profile.View.{items_view}
+use Rattle.soap_document.specs.declared.profile.tree.Item.{Item as CodeItem}
 use Rattle.soap_values.specs.Children.{is_same}
 use Rattle.wsa_headers.specs.Endpoint.{unmarked, is_no_mark, mark_name}
 use Rattle.wsa_headers.specs.Steps.{unmarked_items}

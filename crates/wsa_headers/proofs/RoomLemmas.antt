@@ -6,13 +6,13 @@ use Rattle.std.proofs.lemmas.Bool.Decides.{nat_tests}
 use Rattle.std.specs.Str.{bytes_eq}
 use Rattle.soap_lex.specs.Escapes.{text_escape, value_escape, escaped_text, escaped_value}
 use Rattle.soap_lex.specs.Tests.{is_nil}
-use Rattle.soap_profile.specs.Items.{Item, a_declaration, an_attribute, a_text, a_child, parts_among}
-use Rattle.soap_profile.specs.Namespaces.{xml_space}
-use Rattle.soap_profile.specs.Tree.{Element, element, Parts, none, text, child}
-use Rattle.soap_profile.specs.View.{item_view, items_view, parts_view}
-use Rattle.soap_profile.specs.declared.name.Expanded.{Expanded}
-use Rattle.soap_profile.specs.declared.tree.Attr.{Attr}
-use Rattle.soap_profile.specs.declared.tree.Item.{Item as CodeItem}
+use Rattle.soap_document.specs.Profile.Items.{Item, a_declaration, an_attribute, a_text, a_child, parts_among}
+use Rattle.soap_document.specs.Profile.Namespaces.{xml_space}
+use Rattle.soap_document.specs.Profile.Tree.{Element, element, Parts, none, text, child}
+use Rattle.soap_document.specs.Profile.View.{item_view, items_view, parts_view}
+use Rattle.soap_document.specs.declared.profile.name.Expanded.{Expanded}
+use Rattle.soap_document.specs.declared.profile.tree.Attr.{Attr}
+use Rattle.soap_document.specs.declared.profile.tree.Item.{Item as CodeItem}
 use Rattle.soap_writer.specs.ElementText.{quoted, written_name, declaration, attribute_prefix, attribute_text}
 use Rattle.soap_writer.specs.ElementText.{attributes_text, element_text, parts_text}
 use Rattle.soap_values.specs.Outcome.{◌>>=◌}

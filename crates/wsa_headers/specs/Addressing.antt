@@ -3,7 +3,7 @@ use Rattle.std.specs.Prelude.{◌≡◌, ℕ, List, [], ◌∷◌, Bool, true, f
 use Rattle.std.specs.Prelude.{None, Result, Ok, Err, codes, map, is_none}
 use Rattle.std.specs.List.{filter, list_any}
 use Rattle.std.specs.Str.{bytes_eq}
-use Rattle.soap_profile.specs.Tree.{Element, name_of, attrs_of}
+use Rattle.soap_document.specs.Profile.Tree.{Element, name_of, attrs_of}
 use Rattle.soap_values.specs.Children.{name_in, has_name, value_among}
 use Rattle.soap_values.specs.Outcome.{◌>>=◌, optional, each, if_present}
 use Rattle.soap_values.specs.Values.{is_true}

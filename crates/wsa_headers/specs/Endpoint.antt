@@ -3,10 +3,10 @@ use Rattle.std.specs.Prelude.{ℕ, ◌+◌, List, [], ◌∷◌, Bool, false, no
 use Rattle.std.specs.Prelude.{None, codes, length, map}
 use Rattle.std.specs.List.{filter, flat_map, list_all}
 use Rattle.rm_base.specs.Limits as limits
-use Rattle.soap_profile.specs.Payload.{height}
-use Rattle.soap_profile.specs.Tree.{Element, element, Parts, without_declarations, parts_of, children_of}
-use Rattle.soap_profile.specs.declared.name.Expanded.{Expanded}
-use Rattle.soap_profile.specs.declared.tree.Attr.{Attr}
+use Rattle.soap_document.specs.Profile.Payload.{height}
+use Rattle.soap_document.specs.Profile.Tree.{Element, element, Parts, without_declarations, parts_of, children_of}
+use Rattle.soap_document.specs.declared.profile.name.Expanded.{Expanded}
+use Rattle.soap_document.specs.declared.profile.tree.Attr.{Attr}
 use Rattle.soap_writer.specs.ElementText.{element_text}
 use Rattle.soap_writer.specs.Frame.{addressing_space}
 use Rattle.soap_values.specs.Children.{name_in, is_same, children_named}

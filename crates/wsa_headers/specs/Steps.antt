@@ -1,7 +1,7 @@
 -- The same of what an element has in one list.
 use Rattle.std.specs.Prelude.{List, Bool, false, not}
 use Rattle.std.specs.List.{filter}
-use Rattle.soap_profile.specs.Items.{Item, a_declaration, an_attribute, a_text, a_child}
+use Rattle.soap_document.specs.Profile.Items.{Item, a_declaration, an_attribute, a_text, a_child}
 use Rattle.soap_values.specs.Children.{is_same}
 use Rattle.wsa_headers.specs.Endpoint.{mark_name}
 

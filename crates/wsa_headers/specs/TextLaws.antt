@@ -8,7 +8,7 @@ use Rattle.std.proofs.lemmas.List.{append-nil}
 use Rattle.std.proofs.lemmas.Str.{encodes-chars}
 use Rattle.xml_chars.specs.Classes.{is_char}
 use Rattle.rm_base.specs.Text.{IsText}
-use Rattle.soap_profile.specs.Tree.{Element, none, text, parts_of}
+use Rattle.soap_document.specs.Profile.Tree.{Element, none, text, parts_of}
 use Rattle.soap_writer.specs.Writable.{IsTextWritable}
 use Rattle.soap_values.specs.Children.{text_among}
 use Rattle.soap_values.specs.TextLaws.{text_back}

@@ -2,7 +2,7 @@
 -- 3.2,
 -- and SOAP Binding, section 3.
 use Rattle.std.specs.Prelude.{ℕ, List, [], ◌∷◌, Bool, true, false, Option, Some, None, codes}
-use Rattle.soap_profile.specs.Tree.{Element}
+use Rattle.soap_document.specs.Profile.Tree.{Element}
 use Rattle.soap_writer.specs.Frame.{of_addressing}
 use Rattle.soap_nodes.specs.Node.{Tag as NodeTag, framed, Nodes, full, whole, nothing, more, leaf, each_node}
 use Rattle.wsa_headers.specs.declared.addressing.Addressing.{Addressing}

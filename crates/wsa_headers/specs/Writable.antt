@@ -4,9 +4,9 @@ use Rattle.std.specs.List.{AllByRecursion}
 use Rattle.std.specs.Str.{bytes_eq}
 use Rattle.rm_base.specs.Limits as limits
 use Rattle.rm_base.specs.Text.{IsText}
-use Rattle.soap_profile.specs.Namespaces.{is_new_name}
-use Rattle.soap_profile.specs.Payload.{height}
-use Rattle.soap_profile.specs.Tree.{Element, name_of, attrs_of, children_of}
+use Rattle.soap_document.specs.Profile.Namespaces.{is_new_name}
+use Rattle.soap_document.specs.Profile.Payload.{height}
+use Rattle.soap_document.specs.Profile.Tree.{Element, name_of, attrs_of, children_of}
 use Rattle.soap_writer.specs.Frame.{addressing_space}
 use Rattle.soap_writer.specs.Writable.{IsWritable}
 use Rattle.soap_nodes.specs.Node.{nodes_tree}

@@ -1,7 +1,7 @@
 //! Endpoint references: WS-Addressing 1.0 Core, section 2.
 ghost use Rattle.std.specs.Prelude.{◌≡◌, ◌++◌, map, IfOk, Some};
-ghost use Rattle.soap_profile.specs.Tree.{name_of, children_of};
-ghost use Rattle.soap_profile.specs.View.{element_view, item_view, items_view, parts_view};
+ghost use Rattle.soap_document.specs.Profile.Tree.{name_of, children_of};
+ghost use Rattle.soap_document.specs.Profile.View.{element_view, item_view, items_view, parts_view};
 ghost use Rattle.soap_values.specs.Outcome.{Gives};
 ghost use Rattle.soap_values.specs.Steps.{lent_trees};
 ghost use Rattle.wsa_headers.specs.Addressing.{Answers, blamed};
@@ -12,7 +12,7 @@ ghost use Rattle.wsa_headers.specs.Steps.{is_mark_item, unmarked_items};
 use crate::error::AddressingError;
 use crate::room::may_keep;
 use rm_base::{Blob, Memory, Uri};
-use soap_profile::{Element, Elements, Item, strip};
+use soap_document::profile::{Element, Elements, Item, strip};
 use soap_values::{Flaw, find_all, find_single, is_named, read_trimmed, read_uri};
 use std::alloc::Global;
 

@@ -3,7 +3,7 @@
 
 ghost use Rattle.std.specs.Prelude.{◌≡◌, ◌≤◌, ◌++◌, ℕ, List, Ok, Some, true};
 ghost use Rattle.std.specs.List.{AllByRecursion};
-ghost use Rattle.soap_profile.specs.Tree.{Element as Tree};
+ghost use Rattle.soap_document.specs.Profile.Tree.{Element as Tree};
 ghost use Rattle.soap_writer.specs.Frame.{frame_scope};
 ghost use Rattle.soap_writer.specs.ReadBack.{written_tree};
 ghost use Rattle.soap_nodes.specs.Good.{AreGood};

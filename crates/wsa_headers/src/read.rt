@@ -1,7 +1,7 @@
 //! Message addressing properties from header blocks: WS-Addressing 1.0 Core, section 3.
 ghost use Rattle.std.specs.Prelude.{◌≡◌, ◌||◌, map, option_map, codes, IfOk, Some};
 ghost use Rattle.std.specs.List.{filter};
-ghost use Rattle.soap_profile.specs.View.{element_view};
+ghost use Rattle.soap_document.specs.Profile.View.{element_view};
 ghost use Rattle.soap_values.specs.Outcome.{Gives, optional, each};
 ghost use Rattle.soap_values.specs.Steps.{lent_trees};
 ghost use Rattle.wsa_headers.specs.Endpoint.{uri_of};
@@ -31,7 +31,7 @@ use crate::addressing::Addressing;
 use crate::endpoint::{ADDRESSING, Epr, read_address_of, read_reference, unmark};
 use crate::error::AddressingError;
 use rm_base::{Blob, Items, Memory, Uri};
-use soap_profile::{Element, Elements};
+use soap_document::profile::{Element, Elements};
 use soap_values::{Flaw, find_value, is_named, is_true_mark, read_uri};
 use std::alloc::Global;
 

@@ -3,8 +3,8 @@
 ghost use Rattle.std.specs.Prelude.{◌≡◌, ◌<◌, ◌+◌, ◌^◌, ◌∷◌, [], length, map, decimal, nat_le};
 ghost use Rattle.std.specs.List.{list_all};
 ghost use Rattle.soap_lex.specs.Escapes.{text_escape, value_escape};
-ghost use Rattle.soap_profile.specs.Payload.{height};
-ghost use Rattle.soap_profile.specs.View.{element_view, attrs_view, parts_view};
+ghost use Rattle.soap_document.specs.Profile.Payload.{height};
+ghost use Rattle.soap_document.specs.Profile.View.{element_view, attrs_view, parts_view};
 ghost use Rattle.wsa_headers.specs.Endpoint.{may_keep as may_keep_of};
 ghost use Rattle.wsa_headers.specs.Room.{
   left_of,
@@ -22,7 +22,7 @@ ghost use Rattle.wsa_headers.specs.Room.{
 
 use itoa::Buffer;
 use rm_base::limits::{CONTENT_DEPTH, PARAMETER_BYTES};
-use soap_profile::{Attr, Element, Item, Name, is_shallow};
+use soap_document::profile::{Attr, Element, Item, Name, is_shallow};
 
 /// Whether no parameter is nested too deeply, and their texts are together not too long.
 #[tactic(auto, using(crate::proofs::RoomLemmas::room_decides))]

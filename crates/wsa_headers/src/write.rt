@@ -1,6 +1,6 @@
 //! Header blocks and endpoint references to bytes. Each writer of a piece appends it, up to a want of memory.
 ghost use Rattle.std.specs.Prelude.{◌≡◌, ◌++◌, map, true, OnOk, OnErr};
-ghost use Rattle.soap_profile.specs.View.{element_view};
+ghost use Rattle.soap_document.specs.Profile.View.{element_view};
 ghost use Rattle.soap_writer.specs.ElementText.{element_text};
 ghost use Rattle.soap_nodes.specs.Node.{node_text, nodes_text, full, leaf, nothing};
 ghost use Rattle.wsa_headers.specs.Texts.{
@@ -18,7 +18,7 @@ use crate::endpoint::Epr;
 use crate::tag::Tag;
 use rm_base::{Blob, Memory, Uri};
 use soap_nodes::{push_close, push_leaf, push_start};
-use soap_profile::{Element, Elements};
+use soap_document::profile::{Element, Elements};
 use soap_writer::write_element;
 use std::alloc::Global;
 use std::mem;

@@ -6,11 +6,11 @@ use Rattle.std.specs.FinSet.{contains, len}
 use Rattle.std.specs.Str.{IsUtf8}
 use Rattle.soap_document.specs.Grammar.{IsDocument}
 use Rattle.soap_document.specs.Tree as written
-use Rattle.soap_profile.specs.Document.{Document, IsLongestText}
-use Rattle.soap_profile.specs.Namespaces.{resolve}
-use Rattle.soap_profile.specs.Tree.{Element}
-use Rattle.soap_profile.specs.declared.error.EnvelopeError.{EnvelopeError}
-use Rattle.soap_profile.specs.declared.error.EnvelopeError.TheVariants as documents
+use Rattle.soap_document.specs.Profile.Document.{Document, IsLongestText}
+use Rattle.soap_document.specs.Profile.Namespaces.{resolve}
+use Rattle.soap_document.specs.Profile.Tree.{Element}
+use Rattle.soap_document.specs.declared.profile.error.EnvelopeError.{EnvelopeError}
+use Rattle.soap_document.specs.declared.profile.error.EnvelopeError.TheVariants as documents
 use Rattle.rm_policy.specs.Reading.{IsNoDocument}
 use Rattle.wsp_alternatives.proofs.LawLemmas.{normal-one}
 use Rattle.wsp_alternatives.proofs.OrderLemmas.{term_cmp_total, term_cmp_exact}

@@ -17,9 +17,9 @@ use Rattle.std.proofs.lemmas.Cmp.{tied_itself}
 use Rattle.std.proofs.str.Laws.{Shape, of1, of2, of3, of4, shape}
 use Rattle.soap_lex.specs.NameBytes.{IsNameByte, all_append, name_bytes}
 use Rattle.soap_lex.specs.Scalars.{IsUtf8-IsChars, IsUtf8-IsName}
-use Rattle.soap_profile.specs.Document.{Document}
-use Rattle.soap_profile.specs.Tree as tree
-use Rattle.soap_profile.specs.declared.name.Expanded.{Expanded}
+use Rattle.soap_document.specs.Profile.Document.{Document}
+use Rattle.soap_document.specs.Profile.Tree as tree
+use Rattle.soap_document.specs.declared.profile.name.Expanded.{Expanded}
 use Rattle.soap_writer.specs.Writable.{IsNameWritable, IsWritable, ArePartsWritable}
 use Rattle.soap_stripped.specs.Resolved.{IsResolved}
 use Rattle.rm_policy.specs.Assertion.{assertion_in, optional_in}

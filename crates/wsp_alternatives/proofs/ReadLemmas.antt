@@ -6,15 +6,15 @@ use Rattle.std.proofs.Common.{Result, Ok, Err, map, option_map, refl, ap, sym, �
 use Rattle.std.specs.Prelude.{if◌then◌else◌}
 use Rattle.std.proofs.lemmas.List.{map-append}
 use Rattle.soap_document.specs.Tokens.{is_white}
-use Rattle.soap_profile.specs.Answer.{err_of}
-use Rattle.soap_profile.specs.Document.{Document, IsReadable, IsTooLong, IsTextUpTo, HasNoTree}
-use Rattle.soap_profile.specs.Items.{Item, a_declaration, an_attribute, a_text, a_child, parts_among}
-use Rattle.soap_profile.specs.Payload.{is_white_outside}
-use Rattle.soap_profile.specs.Tree as tree
-use Rattle.soap_profile.specs.View.{item_view, items_view, parts_view}
-use Rattle.soap_profile.specs.declared.error.EnvelopeError.{EnvelopeError}
-use Rattle.soap_profile.specs.declared.error.EnvelopeError.TheVariants as documents
-use Rattle.soap_profile.specs.declared.tree.Item.{Item as CodeItem}
+use Rattle.soap_document.specs.Profile.Answer.{err_of}
+use Rattle.soap_document.specs.Profile.Document.{Document, IsReadable, IsTooLong, IsTextUpTo, HasNoTree}
+use Rattle.soap_document.specs.Profile.Items.{Item, a_declaration, an_attribute, a_text, a_child, parts_among}
+use Rattle.soap_document.specs.Profile.Payload.{is_white_outside}
+use Rattle.soap_document.specs.Profile.Tree as tree
+use Rattle.soap_document.specs.Profile.View.{item_view, items_view, parts_view}
+use Rattle.soap_document.specs.declared.profile.error.EnvelopeError.{EnvelopeError}
+use Rattle.soap_document.specs.declared.profile.error.EnvelopeError.TheVariants as documents
+use Rattle.soap_document.specs.declared.profile.tree.Item.{Item as CodeItem}
 use Rattle.wsp_alternatives.specs.Reading.{policy_in, policies_in, before, is_childless, asked_among, asked_in}
 use Rattle.wsp_alternatives.specs.Reading.{first_of}
 use Rattle.wsp_alternatives.specs.Reading.{count_among, Reads, Answers}

@@ -4,10 +4,10 @@ use Rattle.std.specs.Prelude.{if◌then◌else◌, Option, Some, None, option_ma
 use Rattle.std.specs.Str.{bytes_eq}
 use Rattle.soap_document.specs.Tokens.{is_white}
 use Rattle.soap_lex.specs.Tests.{is_nil}
-use Rattle.soap_profile.specs.Document.{Document, IsReadable}
-use Rattle.soap_profile.specs.Payload.{is_white_outside}
-use Rattle.soap_profile.specs.Tree as tree
-use Rattle.soap_profile.specs.declared.name.Expanded.{Expanded}
+use Rattle.soap_document.specs.Profile.Document.{Document, IsReadable}
+use Rattle.soap_document.specs.Profile.Payload.{is_white_outside}
+use Rattle.soap_document.specs.Profile.Tree as tree
+use Rattle.soap_document.specs.declared.profile.name.Expanded.{Expanded}
 use Rattle.soap_values.specs.Children.{name_in, is_same}
 use Rattle.soap_values.specs.Outcome.{◌>>=◌}
 use Rattle.rm_policy.specs.Assertion.{assertion_in, optional_in, security_in}

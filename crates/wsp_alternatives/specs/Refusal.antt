@@ -1,6 +1,6 @@
 -- Why bytes or an element are no policy.
-use Rattle.soap_profile.specs.declared.error.EnvelopeError.{EnvelopeError}
-use Rattle.soap_profile.specs.declared.error.EnvelopeError.TheVariants as documents
+use Rattle.soap_document.specs.declared.profile.error.EnvelopeError.{EnvelopeError}
+use Rattle.soap_document.specs.declared.profile.error.EnvelopeError.TheVariants as documents
 use Rattle.soap_values.specs.declared.flaw.Flaw.{Flaw}
 use Rattle.soap_values.specs.declared.flaw.Flaw.TheVariants as flaws
 use Rattle.wsp_alternatives.specs.declared.error.WspError.{WspError}

@@ -4,7 +4,7 @@ use Rattle.std.specs.Prelude.{if◌then◌else◌, List, [], ◌∷◌}
 use Rattle.std.specs.Prelude.{◌++◌, codes, decimal, length, slice_index}
 use Rattle.std.specs.List.{AllByRecursion, flat_map}
 use Rattle.hex.specs.Hex.{upper_digits}
-use Rattle.soap_profile.specs.declared.name.Expanded.{Expanded}
+use Rattle.soap_document.specs.declared.profile.name.Expanded.{Expanded}
 use Rattle.rm_policy.specs.Texts.{assurance_word}
 use Rattle.wsp_alternatives.specs.declared.term.Term.{Term}
 use Rattle.wsp_alternatives.specs.declared.term.Term.TheVariants.{Rm, Other}

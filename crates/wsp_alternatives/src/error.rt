@@ -4,7 +4,7 @@ ghost use Rattle.wsp_alternatives.specs.Refusal.{flaw_refusal, refusal_of};
 ghost use Rattle.wsp_alternatives.specs.declared.error.WspError.TheVariants.{Memory as WantsMemory};
 
 use rm_base::{Blob, Memory};
-use soap_profile::EnvelopeError;
+use soap_document::profile::EnvelopeError;
 use soap_values::Flaw;
 use thiserror::Error;
 

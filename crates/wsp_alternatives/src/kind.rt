@@ -3,7 +3,7 @@ ghost use Rattle.std.specs.Prelude.{◌≡◌};
 ghost use Rattle.wsp_alternatives.specs.Reading.{is_word, kind_of as kind_named};
 
 use rm_policy::{ASSERTION, OLDER_POLICY, POLICY};
-use soap_profile::Name;
+use soap_document::profile::Name;
 use soap_values::is_named;
 
 /// What an element is in a policy: an operator, where Policy counts as All, an assertion of reliable messaging, another

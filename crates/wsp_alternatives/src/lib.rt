@@ -1,5 +1,5 @@
 //! Policies of reliable messaging in normal form: which sets of assertions a policy admits, and what two policies have
-//! in common. It stands on the assertions of `rm_policy` and on trees with expanded names, `soap_profile`. The layer
+//! in common. It stands on the assertions of `rm_policy` and on trees with expanded names, `soap_document::profile`. The layer
 //! above may use the contracts, by `specs/`: what is admitted, in the terms of WS-Policy, and never how it is found.
 #![tactic(auto)]
 

@@ -10,7 +10,7 @@ ghost use Rattle.wsp_alternatives.specs.Terms.{term_cmp, assurance_place, bool_p
 use crate::term::Term;
 use rm_base::Memory;
 use rm_policy::Assurance;
-use soap_profile::Name;
+use soap_document::profile::Name;
 use std::cmp::Ordering;
 
 /// The order of terms.

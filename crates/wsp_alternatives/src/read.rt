@@ -1,8 +1,8 @@
 //! Policies and pairs of policies from bytes.
 ghost use Rattle.std.specs.Prelude.{◌≡◌, ◌∷◌, [], ℕ, IfOk, Some, option_map};
-ghost use Rattle.soap_profile.specs.Payload.{is_white_outside};
-ghost use Rattle.soap_profile.specs.Tree.{children_of as children_among};
-ghost use Rattle.soap_profile.specs.View.{element_view, parts_view};
+ghost use Rattle.soap_document.specs.Profile.Payload.{is_white_outside};
+ghost use Rattle.soap_document.specs.Profile.Tree.{children_of as children_among};
+ghost use Rattle.soap_document.specs.Profile.View.{element_view, parts_view};
 ghost use Rattle.soap_values.specs.Outcome.{Gives};
 ghost use Rattle.soap_values.specs.Steps.{lent_trees};
 ghost use Rattle.wsp_alternatives.specs.Reading.{
@@ -23,7 +23,7 @@ use crate::policy::Policy;
 use crate::tree::{count_elements, find_asked, find_asked_among, read_tree};
 use rm_base::{Blob, Memory};
 use soap_document::is_white;
-use soap_profile::{Element, Item, read_element};
+use soap_document::profile::{Element, Item, read_element};
 use soap_values::{Flaw, is_named};
 use std::alloc::Global;
 

@@ -1,6 +1,6 @@
 //! Policies from trees: WS-Policy 1.5, section 4.3.
 ghost use Rattle.std.specs.Prelude.{◌≡◌, ◌∷◌, [], OnOk, option_map};
-ghost use Rattle.soap_profile.specs.View.{element_view, parts_view};
+ghost use Rattle.soap_document.specs.Profile.View.{element_view, parts_view};
 ghost use Rattle.soap_values.specs.Outcome.{Gives};
 ghost use Rattle.wsp_alternatives.specs.Reading.{
   asked_in,
@@ -22,7 +22,7 @@ use crate::term::Term;
 use rm_base::Memory;
 use rm_policy::{find_security, read_form, read_optional};
 use soap_document::is_white;
-use soap_profile::{Element, Item};
+use soap_document::profile::{Element, Item};
 use soap_values::Flaw;
 use std::alloc::Global;
 

@@ -5,8 +5,8 @@ use Rattle.std.specs.List.{AllByRecursion, sum_by}
 use Rattle.std.proofs.lemmas.List.Sums.{sum_by-cons}
 use Rattle.rm_base.specs.declared.message.Binding.{Binding}
 use Rattle.rm_base.specs.declared.message.Payload.{Payload}
-use Rattle.soap_profile.specs.Tree.{Element}
-use Rattle.soap_profile.specs.Payload.{height}
+use Rattle.soap_document.specs.Profile.Tree.{Element}
+use Rattle.soap_document.specs.Profile.Payload.{height}
 use Rattle.soap_writer.specs.ElementText.{element_text}
 use Rattle.soap_writer.specs.Writable.{IsWritable as IsElementWritable}
 use Rattle.wsa_headers.specs.declared.endpoint.Epr.{Epr}

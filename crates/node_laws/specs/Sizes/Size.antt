@@ -3,7 +3,7 @@ use Rattle.std.specs.Prelude.{ℕ, ◌+◌, ◌*◌, min, false, List, length, O
 use Rattle.std.specs.List.{sum_by}
 use Rattle.rm_base.specs.declared.message.Binding.{Binding}
 use Rattle.rm_base.specs.declared.message.Payload.{Payload}
-use Rattle.soap_profile.specs.Tree.{Element}
+use Rattle.soap_document.specs.Profile.Tree.{Element}
 use Rattle.soap_writer.specs.ElementText.{element_text}
 use Rattle.wsa_headers.specs.declared.endpoint.Epr.{Epr}
 use Rattle.record_batch.specs.declared.record.OwnOffer.{OwnOffer}

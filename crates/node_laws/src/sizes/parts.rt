@@ -3,7 +3,7 @@ ghost use Rattle.std.specs.Prelude.{◌≡◌, ◌*◌, ◌<◌, false, length, 
 ghost use Rattle.std.specs.List.{sum_by};
 ghost use Rattle.rm_sides.specs.Ranges.Ranges.{IsCanonical};
 ghost use Rattle.rm_base.specs.Text.{IsText};
-ghost use Rattle.soap_profile.specs.View.{element_view};
+ghost use Rattle.soap_document.specs.Profile.View.{element_view};
 ghost use Rattle.soap_writer.specs.ElementText.{element_text};
 ghost use Rattle.record_batch.specs.Writable.{IsLapseWritable, IsNumber32, IsNumber64, IsOwnOfferWritable};
 ghost use Rattle.node_laws.specs.Sizes.Size.{
@@ -22,7 +22,7 @@ ghost use Rattle.node_laws.specs.Sizes.Typed.{IsPeerOfferTyped};
 use rm_sides::ranges::RangeSet;
 use record_batch::{OwnOffer, PeerOffer};
 use rm_base::{Binding, Blob, Ident, Lapse, Memory, Payload, Uri};
-use soap_profile::Element;
+use soap_document::profile::Element;
 use soap_writer::write_element;
 use std::alloc::Global;
 use wsa_headers::Epr;

@@ -1,6 +1,6 @@
 //! The rows of faults: WS-ReliableMessaging 1.2, section 4.
 ghost use Rattle.std.specs.Prelude.{◌≡◌, ◌++◌, map, IfOk, OnOk};
-ghost use Rattle.soap_profile.specs.View.{element_view};
+ghost use Rattle.soap_document.specs.Profile.View.{element_view};
 ghost use Rattle.rm_message.specs.Kinds.{kind_number};
 ghost use Rattle.rm_protocol.specs.Detail.{found_by as found_from, ident_of as ident_in, named_in as named_from};
 ghost use Rattle.rm_protocol.specs.Rows.{
@@ -22,7 +22,7 @@ use rm_base::{Memory, Uri};
 use rm_elements::MESSAGING;
 use rm_message::{FaultBody, FaultKind, ROLLOVER};
 use rm_sides::source::OutPhase;
-use soap_profile::{Element, Name};
+use soap_document::profile::{Element, Name};
 use std::alloc::Global;
 use tables_ahead::Known;
 

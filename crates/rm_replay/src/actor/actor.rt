@@ -29,7 +29,7 @@ pub struct Came {
 
 impl Model for Actor {
     ghost use Rattle.std.specs.Coded.{codes};
-    ghost use Rattle.soap_profile.specs.TreeCode.{tree_code};
+    ghost use Rattle.soap_document.specs.Profile.TreeCode.{tree_code};
     ghost use Rattle.rm_replay.specs.Actor.Actored.{Actored};
 
     ghost Value = { Actored };

@@ -4,7 +4,7 @@ use node_laws::sizes::batch_len;
 use node_laws::sizes::laws::a_batch_that_fits_is_short;
 use record_batch::{BatchError, Record, read_batch, write_batch};
 use rm_base::{Blob, Ident, Items, Lapse, Payload, Uri};
-use soap_profile::Elements;
+use soap_document::profile::Elements;
 use std::alloc::Global;
 use std::test::Fail;
 use wsa_headers::Epr;

@@ -1,5 +1,5 @@
 use Rattle.std.proofs.Common.{◌≡◌, ◌++◌, drop, map}
-use Rattle.soap_profile.specs.View.{element_view}
+use Rattle.soap_document.specs.Profile.View.{element_view}
 use Rattle.message_reader.specs.Blocks.{not_understood}
 use Rattle.message_reader.proofs.blocks.not_understood.Given as goal
 

@@ -1,6 +1,6 @@
 use Rattle.std.proofs.Common.{◌≡◌, ◌++◌, drop}
-use Rattle.soap_profile.specs.Tree.{children_of}
-use Rattle.soap_profile.specs.View.{parts_view}
+use Rattle.soap_document.specs.Profile.Tree.{children_of}
+use Rattle.soap_document.specs.Profile.View.{parts_view}
 use Rattle.soap_values.specs.Steps.{listed}
 use Rattle.message_reader.proofs.body.only_child.Given as goal
 

@@ -1,6 +1,6 @@
 use Rattle.std.proofs.Common.{◌≡◌, ◌++◌, drop, map}
-use Rattle.soap_profile.specs.Tree.{children_of, without_declarations}
-use Rattle.soap_profile.specs.View.{parts_view}
+use Rattle.soap_document.specs.Profile.Tree.{children_of, without_declarations}
+use Rattle.soap_document.specs.Profile.View.{parts_view}
 use Rattle.message_reader.proofs.fault.strip_each.Given as goal
 
 -- those so far, and those of what is left

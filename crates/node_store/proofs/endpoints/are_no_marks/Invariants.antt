@@ -1,6 +1,6 @@
 use Rattle.std.proofs.Common.{◌≡◌, drop}
-use Rattle.soap_profile.specs.Namespaces.{is_new_name}
-use Rattle.soap_profile.specs.View.{attrs_view}
+use Rattle.soap_document.specs.Profile.Namespaces.{is_new_name}
+use Rattle.soap_document.specs.Profile.View.{attrs_view}
 use Rattle.wsa_headers.specs.Endpoint.{mark_name}
 use Rattle.node_store.proofs.endpoints.are_no_marks.Given as goal
 

@@ -1,6 +1,6 @@
 use Rattle.std.proofs.Common.{◌≡◌, drop, map}
 use Rattle.std.specs.List.{list_all}
-use Rattle.soap_profile.specs.View.{element_view}
+use Rattle.soap_document.specs.Profile.View.{element_view}
 use Rattle.node_store.specs.Endpoints.{is_plain}
 use Rattle.node_store.proofs.endpoints.are_plain.Given as goal
 

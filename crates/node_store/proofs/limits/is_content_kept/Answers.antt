@@ -1,6 +1,6 @@
 use Rattle.std.proofs.Common.{ℕ, Bool, List, subst}
 use Rattle.std.specs.Prelude.{◌↔◌, IfOk, IsTrue}
-use Rattle.soap_profile.specs.Payload.{IsClosedContent}
+use Rattle.soap_document.specs.Profile.Payload.{IsClosedContent}
 use Rattle.node_store.proofs.limits.is_content_kept.Goals as goal
 
 pub returns : goal.returns

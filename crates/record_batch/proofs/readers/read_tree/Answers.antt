@@ -1,4 +1,4 @@
-use Rattle.soap_profile.specs.View.{element_view}
+use Rattle.soap_document.specs.Profile.View.{element_view}
 use Rattle.record_batch.proofs.PartLaws.{tree-again, no-tree, long-tree, cut-tree}
 use Rattle.record_batch.proofs.readers.read_tree.Goals as goal
 

@@ -1,5 +1,5 @@
 use Rattle.std.proofs.lemmas.Result.{err_from_is_err_and}
-use Rattle.soap_profile.specs.View.{element_view}
+use Rattle.soap_document.specs.Profile.View.{element_view}
 use Rattle.record_batch.specs.Parts.{param}
 use Rattle.record_batch.proofs.Loops.{goes_on, ends, is_done}
 use Rattle.record_batch.proofs.readers.take_params.Goals as goal

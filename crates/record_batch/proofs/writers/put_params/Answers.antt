@@ -1,5 +1,5 @@
 use Rattle.std.proofs.Common.{arith}
-use Rattle.soap_profile.specs.View.{element_view}
+use Rattle.soap_document.specs.Profile.View.{element_view}
 use Rattle.record_batch.specs.Writable.{IsShortParam}
 use Rattle.record_batch.proofs.Items.{each_seen-at}
 use Rattle.record_batch.proofs.writers.put_params.Goals as goal

@@ -1,6 +1,6 @@
 use Rattle.std.proofs.Common.{◌≡◌, ℕ, Bool, true, false, ◌&&◌, List, None, Ok, codes, refl}
 use Rattle.std.specs.Str.{bytes_eq}
-use Rattle.soap_profile.specs.Tree.{Element, name_of}
+use Rattle.soap_document.specs.Profile.Tree.{Element, name_of}
 use Rattle.soap_nodes.specs.Node.{node_tree}
 use Rattle.soap_writer.specs.Frame.{addressing_space, messaging_space, connection_space}
 use Rattle.wsa_headers.specs.Writable.{IsForeign}

@@ -1,5 +1,5 @@
 use Rattle.std.proofs.Common.{◌≡◌, drop}
-use Rattle.soap_profile.specs.View.{parts_view}
+use Rattle.soap_document.specs.Profile.View.{parts_view}
 use Rattle.rm_elements.specs.Lifecycle.{has_other}
 use Rattle.rm_elements.proofs.lifecycle.has_other.Given as goal
 

@@ -1,5 +1,5 @@
 use Rattle.std.proofs.Common.{◌≡◌, drop}
-use Rattle.soap_profile.specs.View.{parts_view}
+use Rattle.soap_document.specs.Profile.View.{parts_view}
 use Rattle.rm_policy.specs.Content.{children_as}
 use Rattle.rm_policy.proofs.content.find_first.Given as goal
 

@@ -1,5 +1,5 @@
 use Rattle.std.proofs.lemmas.Result.{err_from_is_err_and}
-use Rattle.soap_profile.specs.declared.tree.Element.{Element}
+use Rattle.soap_document.specs.declared.profile.tree.Element.{Element}
 use Rattle.rm_policy.proofs.Readings.{refused}
 use Rattle.rm_policy.proofs.read.read_assertion.Goals as goal
 

@@ -1,7 +1,7 @@
 use Rattle.std.proofs.Common.{◌≡◌, ◌++◌}
 use Rattle.std.specs.Vec.Iter.{into_iter_items}
-use Rattle.soap_profile.specs.Tree.{children_of}
-use Rattle.soap_profile.specs.View.{parts_view}
+use Rattle.soap_document.specs.Profile.Tree.{children_of}
+use Rattle.soap_document.specs.Profile.View.{parts_view}
 use Rattle.soap_envelope.proofs.outline.children.Given as goal
 
 -- the elements so far, and those of what is left

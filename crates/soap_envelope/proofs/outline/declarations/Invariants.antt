@@ -1,5 +1,5 @@
 use Rattle.std.proofs.Common.{◌≡◌, ◌++◌, drop}
-use Rattle.soap_profile.specs.View.{decls_view}
+use Rattle.soap_document.specs.Profile.View.{decls_view}
 use Rattle.soap_envelope.proofs.outline.declarations.Given as goal
 
 -- the declarations so far, and those of what is left

@@ -1,7 +1,7 @@
 use Rattle.std.proofs.Common.{sym}
 use Rattle.std.proofs.lemmas.Bool.{true≢false}
 use Rattle.std.specs.Vec.Iter.{into_iter_items}
-use Rattle.soap_profile.specs.View.{element_view, parts_view}
+use Rattle.soap_document.specs.Profile.View.{element_view, parts_view}
 use Rattle.soap_envelope.proofs.Outlines.{no_child}
 use Rattle.soap_envelope.proofs.outline.is_end.Goals as goal
 

@@ -1,9 +1,9 @@
 use Rattle.std.proofs.Common.{◌≡◌, List, None, Some, codes, sym, subst, ◌∙◌}
 use Rattle.std.proofs.lemmas.Bool.{true≢false}
 use Rattle.std.specs.Vec.Iter.{into_iter_items}
-use Rattle.soap_profile.specs.Tree.{none, name_of}
-use Rattle.soap_profile.specs.View.{element_view, parts_view}
-use Rattle.soap_profile.specs.declared.tree.Item.{Item}
+use Rattle.soap_document.specs.Profile.Tree.{none, name_of}
+use Rattle.soap_document.specs.Profile.View.{element_view, parts_view}
+use Rattle.soap_document.specs.declared.profile.tree.Item.{Item}
 use Rattle.soap_envelope.specs.Envelope.{name_in, IsSpaced}
 use Rattle.soap_envelope.specs.Steps.{Outlined}
 use Rattle.soap_envelope.proofs.Outlines.{no_outline_next, no_outline_here, outlined_body, outlined_header}

@@ -1,9 +1,9 @@
 use Rattle.std.proofs.Common.{rules, ◌≡◌, List, [], sym, ap, ◌∙◌, arith}
 use Rattle.std.proofs.lemmas.Grind.{common_steps}
 use Rattle.std.specs.Vec.Iter.{into_iter_items}
-use Rattle.soap_profile.specs.Steps.{join}
-use Rattle.soap_profile.specs.View.{parts_view}
-use Rattle.soap_profile.specs.declared.tree.Item.{Item}
+use Rattle.soap_document.specs.Profile.Steps.{join}
+use Rattle.soap_document.specs.Profile.View.{parts_view}
+use Rattle.soap_document.specs.declared.profile.tree.Item.{Item}
 use Rattle.soap_envelope.proofs.Parted.{join_none}
 use Rattle.soap_envelope.proofs.outline.parts.Goals as goal
 

@@ -1,8 +1,8 @@
 use Rattle.std.proofs.Common.{◌≡◌, codes, sym, ◌∙◌}
 use Rattle.std.proofs.lemmas.Bool.{true≢false}
 use Rattle.std.specs.Vec.Iter.{into_iter_items}
-use Rattle.soap_profile.specs.Tree.{none, name_of}
-use Rattle.soap_profile.specs.View.{element_view, parts_view}
+use Rattle.soap_document.specs.Profile.Tree.{none, name_of}
+use Rattle.soap_document.specs.Profile.View.{element_view, parts_view}
 use Rattle.soap_envelope.specs.Envelope.{name_in, IsSpaced}
 use Rattle.soap_envelope.proofs.Outlines.{no_body_next, no_body_here}
 use Rattle.soap_envelope.proofs.outline.with_header.Goals as goal

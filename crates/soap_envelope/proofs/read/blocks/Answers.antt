@@ -1,5 +1,5 @@
 use Rattle.std.proofs.Common.{◌∙◌}
-use Rattle.soap_profile.specs.View.{parts_view}
+use Rattle.soap_document.specs.Profile.View.{parts_view}
 use Rattle.soap_envelope.proofs.Envelopes.{no_blocks, some_blocks}
 use Rattle.soap_envelope.proofs.read.blocks.Goals as goal
 

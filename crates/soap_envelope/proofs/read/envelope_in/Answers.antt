@@ -1,7 +1,7 @@
 use Rattle.std.proofs.Common.{◌≡◌, List, option_map, codes, sym, subst, ◌∙◌}
-use Rattle.soap_profile.specs.Tree.{Parts, name_of}
+use Rattle.soap_document.specs.Profile.Tree.{Parts, name_of}
 use Rattle.rm_base.specs.declared.message.Binding.{Binding}
-use Rattle.soap_profile.specs.View.{element_view}
+use Rattle.soap_document.specs.Profile.View.{element_view}
 use Rattle.soap_envelope.specs.Envelope.{name_in, IsOutline, IsHeader}
 use Rattle.soap_envelope.specs.View.{envelope_view}
 use Rattle.soap_envelope.proofs.Envelopes.{is_envelope, name_is, same_slices}

@@ -1,7 +1,7 @@
 use Rattle.std.proofs.Common.{subst}
-use Rattle.soap_profile.specs.declared.error.EnvelopeError.TheVariants.{TooLong, NotUtf8, NotProfile}
-use Rattle.soap_profile.specs.declared.read.Placed.{Placed}
-use Rattle.soap_profile.specs.Answer.{same_error, errors_alike}
+use Rattle.soap_document.specs.declared.profile.error.EnvelopeError.TheVariants.{TooLong, NotUtf8, NotProfile}
+use Rattle.soap_document.specs.declared.profile.read.Placed.{Placed}
+use Rattle.soap_document.specs.Profile.Answer.{same_error, errors_alike}
 use Rattle.soap_envelope.specs.Steps.{Answers}
 use Rattle.soap_envelope.specs.declared.envelope.Envelope.{Envelope}
 use Rattle.soap_envelope.proofs.Envelopes.{ok_apart}

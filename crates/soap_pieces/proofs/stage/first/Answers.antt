@@ -1,5 +1,5 @@
 use Rattle.std.proofs.Common.{[], length, refl, sym, ap, subst, arith}
-use Rattle.soap_profile.specs.Fed.{WasFed}
+use Rattle.soap_document.specs.Profile.Fed.{WasFed}
 use Rattle.soap_pieces.proofs.Stages.{nothing_in_root}
 use Rattle.soap_pieces.specs.Stage.{IsInRoot}
 use Rattle.soap_pieces.proofs.stage.first.Goals as goal

@@ -1,5 +1,5 @@
 use Rattle.std.proofs.Common.{◌+◌, ◌++◌, length, sym, ap, subst, ◌∙◌, arith, length-append}
-use Rattle.soap_profile.specs.Fed.{WasFed}
+use Rattle.soap_document.specs.Profile.Fed.{WasFed}
 use Rattle.soap_pieces.proofs.Stages.{come_same}
 use Rattle.soap_pieces.proofs.stage.in_root.Goals as goal
 

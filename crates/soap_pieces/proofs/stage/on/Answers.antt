@@ -1,5 +1,5 @@
 use Rattle.std.proofs.Common.{length, refl, sym, ap, subst, ◌∙◌, arith}
-use Rattle.soap_profile.specs.Fed.{WasFed}
+use Rattle.soap_document.specs.Profile.Fed.{WasFed}
 use Rattle.soap_pieces.specs.Front.{IsFront}
 use Rattle.soap_pieces.proofs.Stages.{come_same, sound_by}
 use Rattle.soap_pieces.proofs.stage.on.Goals as goal

@@ -1,7 +1,7 @@
 use Rattle.std.proofs.Common.{List, ℕ, ◌≤◌, length, take, subst, ◌∙◌, arith}
 use Rattle.std.specs.Str.{IsUtf8}
 use Rattle.std.proofs.lemmas.List.{take_all}
-use Rattle.soap_profile.specs.Document.{IsLongestText}
+use Rattle.soap_document.specs.Profile.Document.{IsLongestText}
 use Rattle.soap_pieces.proofs.Answers.{broken_is, none_is}
 use Rattle.soap_pieces.proofs.stage.why_unended.Goals as goal
 

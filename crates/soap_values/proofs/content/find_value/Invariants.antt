@@ -1,5 +1,5 @@
 use Rattle.std.proofs.Common.{◌≡◌, ◌++◌, drop}
-use Rattle.soap_profile.specs.View.{attrs_view}
+use Rattle.soap_document.specs.Profile.View.{attrs_view}
 use Rattle.soap_values.specs.Children.{name_in, value_among}
 use Rattle.soap_values.proofs.content.find_value.Given as goal
 

@@ -1,5 +1,5 @@
 use Rattle.std.proofs.Common.{◌≡◌, ◌++◌, drop, option_map}
-use Rattle.soap_profile.specs.View.{parts_view}
+use Rattle.soap_document.specs.Profile.View.{parts_view}
 use Rattle.soap_values.specs.Children.{text_among}
 use Rattle.soap_values.proofs.content.joined_text.Given as goal
 

@@ -1,5 +1,5 @@
 use Rattle.std.proofs.Common.{◌≡◌, drop}
-use Rattle.soap_profile.specs.Namespaces.{bound}
+use Rattle.soap_document.specs.Profile.Namespaces.{bound}
 use Rattle.soap_values.proofs.qnames.find_among.Given as goal
 
 -- none of those so far binds it

@@ -1,5 +1,5 @@
 use Rattle.std.proofs.Common.{◌≡◌, sym}
-use Rattle.soap_profile.specs.Namespaces.{bound}
+use Rattle.soap_document.specs.Profile.Namespaces.{bound}
 use Rattle.soap_values.specs.QNames.{within}
 use Rattle.soap_values.specs.Steps.{lent_trees}
 use Rattle.soap_values.proofs.BoundLemmas.{bound_at, bound_past}

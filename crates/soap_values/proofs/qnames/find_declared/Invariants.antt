@@ -1,6 +1,6 @@
 use Rattle.std.proofs.Common.{◌≡◌, drop}
-use Rattle.soap_profile.specs.Namespaces.{bound}
-use Rattle.soap_profile.specs.View.{decls_view}
+use Rattle.soap_document.specs.Profile.Namespaces.{bound}
+use Rattle.soap_document.specs.Profile.View.{decls_view}
 use Rattle.soap_values.proofs.qnames.find_declared.Given as goal
 
 -- none of those so far binds it

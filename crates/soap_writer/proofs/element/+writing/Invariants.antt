@@ -1,5 +1,5 @@
 use Rattle.std.proofs.Common.{◌≡◌, ◌++◌, drop}
-use Rattle.soap_profile.specs.View.{parts_view}
+use Rattle.soap_document.specs.Profile.View.{parts_view}
 use Rattle.soap_writer.specs.ElementText.{parts_text}
 use Rattle.soap_writer.specs.Steps.{Grows}
 use Rattle.soap_writer.proofs.element.+writing.Given as goal

@@ -1,5 +1,5 @@
 use Rattle.std.proofs.Common.{◌≡◌, ◌≤◌, ◌++◌, drop}
-use Rattle.soap_profile.specs.View.{attrs_view}
+use Rattle.soap_document.specs.Profile.View.{attrs_view}
 use Rattle.soap_writer.specs.ElementText.{attributes_text}
 use Rattle.soap_writer.specs.Steps.{Grows}
 use Rattle.soap_writer.proofs.tags.push_attributes.Given as goal

@@ -1,6 +1,6 @@
 use Rattle.std.proofs.Common.{◌≡◌, ◌++◌, drop, map}
-use Rattle.soap_profile.specs.Tree.{children_of}
-use Rattle.soap_profile.specs.View.{parts_view}
+use Rattle.soap_document.specs.Profile.Tree.{children_of}
+use Rattle.soap_document.specs.Profile.View.{parts_view}
 use Rattle.wsa_headers.specs.Endpoint.{param}
 use Rattle.wsa_headers.proofs.endpoint.push_params.Given as goal
 

@@ -1,6 +1,6 @@
 use Rattle.std.proofs.Common.{◌≡◌, ◌++◌}
 use Rattle.std.specs.Vec.Iter.{into_iter_items}
-use Rattle.soap_profile.specs.View.{items_view}
+use Rattle.soap_document.specs.Profile.View.{items_view}
 use Rattle.wsa_headers.specs.Steps.{unmarked_items}
 use Rattle.wsa_headers.proofs.endpoint.unmarked_among.Given as goal
 

@@ -1,5 +1,5 @@
 use Rattle.std.proofs.Common.{◌≡◌, drop, map}
-use Rattle.soap_profile.specs.View.{element_view}
+use Rattle.soap_document.specs.Profile.View.{element_view}
 use Rattle.wsa_headers.specs.Addressing.{unreadable}
 use Rattle.wsa_headers.proofs.read.first_unreadable.Given as goal
 

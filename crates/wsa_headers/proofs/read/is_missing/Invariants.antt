@@ -1,5 +1,5 @@
 use Rattle.std.proofs.Common.{◌≡◌, drop, map}
-use Rattle.soap_profile.specs.View.{element_view}
+use Rattle.soap_document.specs.Profile.View.{element_view}
 use Rattle.wsa_headers.specs.Addressing.{is_missing}
 use Rattle.wsa_headers.proofs.read.is_missing.Given as goal
 

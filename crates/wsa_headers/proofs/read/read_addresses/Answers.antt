@@ -1,5 +1,5 @@
 use Rattle.std.proofs.lemmas.Result.{err_from_is_err_and}
-use Rattle.soap_profile.specs.View.{element_view}
+use Rattle.soap_document.specs.Profile.View.{element_view}
 use Rattle.soap_values.specs.EachLaws.{each_goes_on, each_stops}
 use Rattle.soap_values.specs.Outcome.{each}
 use Rattle.soap_values.specs.Steps.{lent_trees}

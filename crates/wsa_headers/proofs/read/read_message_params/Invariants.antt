@@ -1,5 +1,5 @@
 use Rattle.std.proofs.Common.{◌≡◌, ◌++◌, drop, map}
-use Rattle.soap_profile.specs.View.{element_view}
+use Rattle.soap_document.specs.Profile.View.{element_view}
 use Rattle.wsa_headers.specs.Addressing.{params_of}
 use Rattle.wsa_headers.proofs.read.read_message_params.Given as goal
 

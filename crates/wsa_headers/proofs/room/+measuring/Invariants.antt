@@ -1,5 +1,5 @@
 use Rattle.std.proofs.Common.{◌≡◌, drop}
-use Rattle.soap_profile.specs.View.{parts_view}
+use Rattle.soap_document.specs.Profile.View.{parts_view}
 use Rattle.wsa_headers.specs.Room.{parts_room}
 use Rattle.wsa_headers.proofs.room.+measuring.Given as goal
 

@@ -1,5 +1,5 @@
 use Rattle.std.proofs.Common.{◌≡◌, ◌≤◌, drop}
-use Rattle.soap_profile.specs.View.{attrs_view}
+use Rattle.soap_document.specs.Profile.View.{attrs_view}
 use Rattle.wsa_headers.specs.Room.{attributes_room}
 use Rattle.wsa_headers.proofs.room.after_attributes.Given as goal
 

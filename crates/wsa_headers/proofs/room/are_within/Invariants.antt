@@ -1,7 +1,7 @@
 use Rattle.std.proofs.Common.{◌≡◌, drop, map, nat_le}
 use Rattle.std.specs.List.{list_all}
-use Rattle.soap_profile.specs.Payload.{height}
-use Rattle.soap_profile.specs.View.{element_view}
+use Rattle.soap_document.specs.Profile.Payload.{height}
+use Rattle.soap_document.specs.Profile.View.{element_view}
 use Rattle.wsa_headers.proofs.room.are_within.Given as goal
 
 -- those that are left decide

@@ -1,6 +1,6 @@
 use Rattle.std.proofs.Common.{◌≡◌, ◌++◌, drop}
-use Rattle.soap_profile.specs.Tree.{children_of}
-use Rattle.soap_profile.specs.View.{parts_view}
+use Rattle.soap_document.specs.Profile.Tree.{children_of}
+use Rattle.soap_document.specs.Profile.View.{parts_view}
 use Rattle.soap_values.specs.Steps.{lent_trees}
 use Rattle.wsp_alternatives.proofs.read.children_of.Given as goal
 

@@ -1,6 +1,6 @@
 use Rattle.std.proofs.Common.{◌≡◌, drop}
-use Rattle.soap_profile.specs.Payload.{is_white_outside}
-use Rattle.soap_profile.specs.View.{parts_view}
+use Rattle.soap_document.specs.Profile.Payload.{is_white_outside}
+use Rattle.soap_document.specs.Profile.View.{parts_view}
 use Rattle.wsp_alternatives.proofs.read.is_white_beside.Given as goal
 
 -- those that are left decide

@@ -1,6 +1,6 @@
 use Rattle.std.proofs.lemmas.Result.{err_from_is_err_and}
-use Rattle.soap_profile.specs.View.{element_view}
-use Rattle.soap_profile.specs.declared.tree.Element.{Element}
+use Rattle.soap_document.specs.Profile.View.{element_view}
+use Rattle.soap_document.specs.declared.profile.tree.Element.{Element}
 use Rattle.wsp_alternatives.proofs.ReadLemmas.{refused, read_from}
 use Rattle.wsp_alternatives.specs.Reading.{pair_of}
 use Rattle.wsp_alternatives.specs.Tree.{pair_view}

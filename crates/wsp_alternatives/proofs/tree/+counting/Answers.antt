@@ -1,6 +1,6 @@
 use Rattle.std.proofs.Common.{◌≡◌, ◌+◌, ◌∙◌, ap, sym, arith}
 use Rattle.std.proofs.Math.ListN.{drop_of_length-le}
-use Rattle.soap_profile.specs.View.{parts_view}
+use Rattle.soap_document.specs.Profile.View.{parts_view}
 use Rattle.wsp_alternatives.specs.Reading.{count_among, counted}
 use Rattle.wsp_alternatives.proofs.tree.+counting.Goals as goal
 

@@ -1,5 +1,5 @@
 use Rattle.std.proofs.Common.{◌≡◌, ◌≤◌, ◌+◌, drop}
-use Rattle.soap_profile.specs.View.{parts_view}
+use Rattle.soap_document.specs.Profile.View.{parts_view}
 use Rattle.wsp_alternatives.specs.Reading.{count_among, counted}
 use Rattle.wsp_alternatives.proofs.tree.+counting.Given as goal
 

@@ -1,6 +1,6 @@
 use Rattle.std.proofs.Common.{◌+◌, ◌∙◌, ap, drop, sym}
 use Rattle.std.proofs.Math.ListN.{drop_of_length-le}
-use Rattle.soap_profile.specs.View.{parts_view}
+use Rattle.soap_document.specs.Profile.View.{parts_view}
 use Rattle.wsp_alternatives.specs.Reading.{policies_in}
 use Rattle.wsp_alternatives.specs.Tree.{policies_view}
 use Rattle.wsp_alternatives.proofs.ReadLemmas.{behind, behind_all, behind_put, in_front, policies_from}

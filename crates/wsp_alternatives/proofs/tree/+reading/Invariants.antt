@@ -1,5 +1,5 @@
 use Rattle.std.proofs.Common.{◌≡◌, drop}
-use Rattle.soap_profile.specs.View.{parts_view}
+use Rattle.soap_document.specs.Profile.View.{parts_view}
 use Rattle.wsp_alternatives.specs.Reading.{policies_in}
 use Rattle.wsp_alternatives.specs.Tree.{policies_view}
 use Rattle.wsp_alternatives.proofs.ReadLemmas.{behind}

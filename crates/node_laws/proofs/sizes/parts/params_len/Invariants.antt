@@ -1,6 +1,6 @@
 use Rattle.std.proofs.Common.{◌≡◌, map, take}
 use Rattle.std.specs.List.{sum_by}
-use Rattle.soap_profile.specs.View.{element_view}
+use Rattle.soap_document.specs.Profile.View.{element_view}
 use Rattle.node_laws.specs.Sizes.Size.{capped, param_size}
 use Rattle.node_laws.proofs.sizes.parts.params_len.Given as goal
 

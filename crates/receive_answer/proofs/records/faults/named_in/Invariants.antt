@@ -1,5 +1,5 @@
 use Rattle.std.proofs.Common.{◌≡◌, ◌++◌, drop, map}
-use Rattle.soap_profile.specs.View.{element_view}
+use Rattle.soap_document.specs.Profile.View.{element_view}
 use Rattle.rm_protocol.specs.Detail.{named_in}
 use Rattle.receive_answer.proofs.records.faults.named_in.Given as goal
 use Rattle.tables_ahead.specs.Known.{all_records}

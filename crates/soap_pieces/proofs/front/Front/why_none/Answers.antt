@@ -1,5 +1,5 @@
 use Rattle.std.proofs.Common.{sym, subst, arith}
-use Rattle.soap_profile.specs.Document.{IsLongestText}
+use Rattle.soap_document.specs.Profile.Document.{IsLongestText}
 use Rattle.soap_pieces.proofs.Answers.{broken_is, none_is}
 use Rattle.soap_pieces.proofs.Fronts.{longest_front, whole_text}
 use Rattle.soap_pieces.proofs.front.Front.why_none.Goals as goal

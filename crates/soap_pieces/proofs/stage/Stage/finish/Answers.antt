@@ -1,9 +1,9 @@
 use Rattle.std.proofs.Common.{◌≡◌, ◌≤◌, [], Err, arith, length, sym, subst, ◌∙◌}
 use Rattle.std.proofs.lemmas.Str.{IsUtf8-nil}
 use Rattle.rm_base.specs.Limits.{envelope_bytes}
-use Rattle.soap_profile.specs.Document.{Document}
-use Rattle.soap_profile.specs.Tree.{Element}
-use Rattle.soap_profile.specs.declared.error.EnvelopeError.TheVariants as Error
+use Rattle.soap_document.specs.Profile.Document.{Document}
+use Rattle.soap_document.specs.Profile.Tree.{Element}
+use Rattle.soap_document.specs.declared.profile.error.EnvelopeError.TheVariants as Error
 use Rattle.soap_pieces.specs.Answer.{Reads}
 use Rattle.soap_pieces.specs.Stage.{HasCome}
 use Rattle.soap_pieces.proofs.Answers.{long_is, none_is}

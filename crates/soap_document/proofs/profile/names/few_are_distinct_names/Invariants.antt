@@ -1,0 +1,10 @@
+use Rattle.std.proofs.Common.{◌≡◌, length}
+use Rattle.soap_document.specs.Profile.Namespaces.{are_distinct_names}
+use Rattle.soap_document.specs.Profile.View.{attrs_view}
+use Rattle.soap_document.proofs.profile.names.few_are_distinct_names.Given as goal
+
+abbrev pub invariant-loop-rest : goal.invariant-loop-rest
+invariant-loop-rest l = are_distinct_names (attrs_view l.items) ≡ are_distinct_names (attrs_view l.rest)
+
+abbrev pub decreases-loop-rest : goal.decreases-loop-rest
+decreases-loop-rest l = length l.rest

@@ -1,0 +1,8 @@
+use Rattle.std.proofs.Common.{[], sym, ap, ◌∙◌}
+use Rattle.soap_document.proofs.ProfileLemmas.Nests.{rooted_nest, alone_within}
+use Rattle.soap_document.proofs.ProfileLemmas.Resolvers.{broken_is}
+use Rattle.soap_document.proofs.profile.resolver.Resolver.finish.Goals as goal
+
+pub returns-then-self : goal.returns-then-self
+returns-then-self c = λ top h.
+    sym (rooted_nest top ∙ ap alone_within (broken_is c.args.self top [] h c.if-self.true))

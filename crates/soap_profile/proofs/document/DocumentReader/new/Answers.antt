@@ -1,4 +1,0 @@
-use Rattle.soap_profile.proofs.document.DocumentReader.new.Goals as goal
-
-pub returns-clause-fed : goal.returns-clause-fed
-returns-clause-fed c = c.new-reader.ensures.sees c.in_ok-resolver.ensures.stands

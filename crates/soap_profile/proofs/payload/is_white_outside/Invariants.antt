@@ -1,9 +1,0 @@
-use Rattle.std.proofs.Common.{◌≡◌, drop}
-use Rattle.soap_profile.specs.Payload.{is_white_outside}
-use Rattle.soap_profile.specs.View.{parts_view}
-use Rattle.soap_profile.proofs.payload.is_white_outside.Given as goal
-
--- those that are left decide
-abbrev pub invariant-loop-item : goal.invariant-loop-item
-invariant-loop-item l =
-    is_white_outside (parts_view (drop l.item-index l.items)) ≡ is_white_outside (parts_view l.items)

@@ -1,4 +1,0 @@
-use Rattle.soap_profile.proofs.resolver.Opened.untagged.Goals as goal
-
-pub returns : goal.returns
-returns c = rw (c.in_ok-new.ensures, c.in_ok-from_slice.ensures, c.new-2.ensures.items)

@@ -1,8 +1,0 @@
-use Rattle.std.proofs.Common.{[], sym, ap, ◌∙◌}
-use Rattle.soap_profile.proofs.Nests.{rooted_nest, alone_within}
-use Rattle.soap_profile.proofs.Resolvers.{broken_is}
-use Rattle.soap_profile.proofs.resolver.Resolver.finish.Goals as goal
-
-pub returns-then-self : goal.returns-then-self
-returns-then-self c = λ top h.
-    sym (rooted_nest top ∙ ap alone_within (broken_is c.args.self top [] h c.if-self.true))

@@ -1,8 +1,0 @@
-use Rattle.std.proofs.Common.{◌++◌}
-use Rattle.soap_profile.specs.View.{decls_view}
-use Rattle.soap_profile.proofs.scope.Scope.enter.Goals as goal
-
-pub returns : goal.returns
-returns c = λ bindings h.
-    c.forget.ensures bindings (decls_view c.args.items.now ++ bindings) h.elements h.attributes
-    (c.in_ok-bind_all.ensures bindings h.stacks)
