@@ -21,8 +21,8 @@ use Rattle.soap_document.specs.declared.profile.name.Expanded.{Expanded}
 use Rattle.soap_writer.specs.Frame.{frame_scope}
 use Rattle.soap_writer.specs.Plain.{chars_from}
 use Rattle.soap_writer.specs.Writable.{IsNameWritable, IsTextWritable}
-use Rattle.soap_nodes.specs.Good.{IsTagGood, IsGood, AreGood}
-use Rattle.soap_nodes.specs.Node.{tag_name, plain, declared, Nodes, nothing}
+use Rattle.soap_writer.specs.Nodes.Good.{IsTagGood, IsGood, AreGood}
+use Rattle.soap_writer.specs.Nodes.Node.{tag_name, plain, declared, Nodes, nothing}
 use Rattle.wsa_headers.specs.Texts.{params_nodes}
 use Rattle.rm_message.specs.declared.message.FaultBody.{FaultBody}
 use Rattle.rm_message.specs.declared.message.FaultCode.{FaultCode}

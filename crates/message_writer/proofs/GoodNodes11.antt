@@ -11,8 +11,8 @@ use Rattle.soap_document.specs.declared.profile.name.Expanded.{Expanded}
 use Rattle.soap_writer.specs.Frame.{frame_scope}
 use Rattle.soap_writer.specs.Plain.{chars_from}
 use Rattle.soap_writer.specs.Writable.{IsNameWritable, IsTextWritable}
-use Rattle.soap_nodes.specs.Good.{IsTagGood, IsGood, AreGood}
-use Rattle.soap_nodes.specs.Node.{tag_name, declared, bare}
+use Rattle.soap_writer.specs.Nodes.Good.{IsTagGood, IsGood, AreGood}
+use Rattle.soap_writer.specs.Nodes.Node.{tag_name, declared, bare}
 use Rattle.rm_elements.specs.Texts.{r, sequence_node}
 use Rattle.rm_elements.specs.declared.header.SeqHeader.{SeqHeader}
 use Rattle.rm_message.specs.declared.message.FaultBody.{FaultBody}

@@ -6,7 +6,7 @@ use Rattle.std.proofs.lemmas.Grind.{flat_map-append}
 use Rattle.std.specs.Prelude.{true}
 use Rattle.soap_lex.specs.Escapes.{escaped_text}
 use Rattle.soap_document.specs.Profile.Tree.{Element}
-use Rattle.soap_nodes.specs.Node.{Nodes, full, whole, leaf, node_text, nodes_text}
+use Rattle.soap_writer.specs.Nodes.Node.{Nodes, full, whole, leaf, node_text, nodes_text}
 use Rattle.wsa_headers.specs.Texts.{tag_of, params_nodes, epr_nodes, uri_before, epr_before, addressing_nodes}
 use Rattle.wsa_headers.specs.declared.addressing.Addressing.{Addressing}
 use Rattle.wsa_headers.specs.declared.endpoint.Epr.{Epr}

@@ -3,7 +3,7 @@ use Rattle.std.proofs.Common.{◌≡◌, ◌++◌, ℕ, List, [], ◌∷◌, ref
 use Rattle.soap_document.specs.Profile.Items.{Item, a_child, decls_among, attrs_among, parts_among, listed}
 use Rattle.soap_document.specs.Profile.Tree.{element, Parts, none, text, child}
 use Rattle.soap_document.specs.declared.profile.name.Expanded.{Expanded}
-use Rattle.soap_nodes.specs.Node.{Node, Nodes, nothing, each_node, node_tree, nodes_tree}
+use Rattle.soap_writer.specs.Nodes.Node.{Node, Nodes, nothing, each_node, node_tree, nodes_tree}
 use Rattle.rm_elements.specs.Texts.{range_node, nack_node, kind_nodes}
 use Rattle.rm_elements.specs.declared.header.AckKind.{AckKind}
 use Rattle.rm_elements.specs.declared.header.AckKind.TheVariants.{Ranges, Nothing, Nack}

@@ -7,7 +7,7 @@ use Rattle.soap_envelope.specs.Soap.{soap_space}
 use Rattle.soap_document.specs.Profile.Tree.{Element}
 use Rattle.soap_document.specs.declared.profile.name.Expanded.{Expanded}
 use Rattle.soap_writer.specs.Frame.{addressing_space, messaging_space, connection_space}
-use Rattle.soap_nodes.specs.Node.{leaf, node_tree}
+use Rattle.soap_writer.specs.Nodes.Node.{leaf, node_tree}
 use Rattle.wsa_headers.specs.declared.addressing.Addressing.{Addressing}
 use Rattle.rm_elements.specs.Texts.{r, identifier_node, ack_node}
 use Rattle.rm_elements.specs.declared.header.AckBlock.{AckBlock}

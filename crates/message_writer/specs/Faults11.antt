@@ -5,7 +5,7 @@ use Rattle.std.specs.Str.{bytes_eq}
 use Rattle.soap_document.specs.Profile.Tree.{Element}
 use Rattle.soap_document.specs.declared.profile.name.Expanded.{Expanded}
 use Rattle.soap_writer.specs.Frame.{addressing_space, messaging_space, connection_space}
-use Rattle.soap_nodes.specs.Node.{Tag as NodeTag, bare, Node, Nodes, full, nothing, words, more}
+use Rattle.soap_writer.specs.Nodes.Node.{Tag as NodeTag, bare, Node, Nodes, full, nothing, words, more}
 use Rattle.wsa_headers.specs.Texts.{params_nodes}
 use Rattle.rm_elements.specs.Texts.{r}
 use Rattle.soap_values.specs.Children.{name_in}

@@ -12,8 +12,8 @@ use Rattle.soap_document.specs.declared.profile.name.Expanded.{Expanded}
 use Rattle.soap_writer.specs.ElementText.{written_name}
 use Rattle.soap_writer.specs.Frame.{of_soap}
 use Rattle.soap_frame.specs.Framed.{framed_text}
-use Rattle.soap_nodes.specs.Node.{Tag as NodeTag, framed, Note, plain, of_xml, declared, Node, Nodes, full, void}
-use Rattle.soap_nodes.specs.Node.{nothing, words, more, leaf, node_text}
+use Rattle.soap_writer.specs.Nodes.Node.{Tag as NodeTag, framed, Note, plain, of_xml, declared, Node, Nodes, full, void}
+use Rattle.soap_writer.specs.Nodes.Node.{nothing, words, more, leaf, node_text}
 use Rattle.wsa_headers.specs.Texts.{addressing_nodes, params_nodes}
 use Rattle.rm_elements.specs.Texts.{sequence_node, ack_node, ask_node, pending_node, lifecycle_node}
 use Rattle.message_writer.specs.declared.tag.Tag.{Tag}

@@ -6,7 +6,7 @@ use Rattle.soap_envelope.specs.Soap.{soap11_space}
 use Rattle.soap_document.specs.Profile.Tree.{Parts, none, child}
 use Rattle.soap_frame.specs.Framed.{framed_text}
 use Rattle.soap_writer.specs.Frame.{of_soap}
-use Rattle.soap_nodes.specs.Node.{prefixed, Node, full, nothing, more, leaf, node_text, node_tree}
+use Rattle.soap_writer.specs.Nodes.Node.{prefixed, Node, full, nothing, more, leaf, node_text, node_tree}
 use Rattle.wsa_headers.specs.Texts.{addressing_nodes}
 use Rattle.rm_elements.specs.Texts.{identifier_node, r, ack_node, ask_node, pending_node}
 use Rattle.rm_elements.specs.declared.header.SeqHeader.{SeqHeader}

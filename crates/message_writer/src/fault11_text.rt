@@ -1,7 +1,7 @@
 //! Faults to bytes in SOAP 1.1, section 4.4, and the header SequenceFault that goes ahead of them: WS-ReliableMessaging
 //! 1.2, section 4. Each writer of a piece appends it, up to a want of memory.
 ghost use Rattle.std.specs.Prelude.{◌≡◌, ◌++◌, [], OnOk, codes};
-ghost use Rattle.soap_nodes.specs.Node.{bare, full, words, node_text, nodes_text};
+ghost use Rattle.soap_writer.specs.Nodes.Node.{bare, full, words, node_text, nodes_text};
 ghost use Rattle.rm_elements.specs.Texts.{r};
 ghost use Rattle.message_writer.specs.Text.{qname as qname_text, qname_notes, blocks_text};
 ghost use Rattle.message_writer.specs.Faults11.{
@@ -23,7 +23,7 @@ use crate::qname::{push_qname_declaration, qname};
 use rm_base::{Blob, Memory};
 use rm_elements::MESSAGING;
 use rm_message::{FaultBody, FaultCode};
-use soap_nodes::{push_begin, push_close, push_start};
+use soap_writer::nodes::{push_begin, push_close, push_start};
 use soap_document::profile::{Elements, Name};
 use soap_writer::{push_bytes, push_text};
 use std::alloc::Global;
@@ -59,7 +59,7 @@ fn is_told(subcode: &Option<Name>) -> bool
 }
 
 // An element of text in no namespace.
-#[tactic(auto, unfolding(soap_nodes::specs::Node::tag_name))]
+#[tactic(auto, unfolding(soap_writer::specs::Nodes::Node::tag_name))]
 fn push_plain(local: &[u8], text: &[u8], out: &mut Vec<u8>) -> Result<(), Memory>
     ensures { OnOk result (out.new.items ≡ out.old.items ++ node_text (plain_leaf local.now text.now)) }
 {
@@ -70,7 +70,7 @@ fn push_plain(local: &[u8], text: &[u8], out: &mut Vec<u8>) -> Result<(), Memory
 }
 
 // A faultcode that is the subcode itself.
-#[tactic(auto, unfolding(soap_nodes::specs::Node::tag_name))]
+#[tactic(auto, unfolding(soap_writer::specs::Nodes::Node::tag_name))]
 fn push_named(alloc: Global, name: &Name, out: &mut Vec<u8>) -> Result<(), Memory>
     ensures { OnOk result (out.new.items ≡ out.old.items
         ++ node_text (full (bare (codes "faultcode")) (qname_notes name.now) (words (qname_text name.now)))) }
@@ -110,7 +110,7 @@ fn push_faultcode(
     }
 }
 
-#[tactic(auto, unfolding(soap_nodes::specs::Node::tag_name))]
+#[tactic(auto, unfolding(soap_writer::specs::Nodes::Node::tag_name))]
 fn push_detail(alloc: Global, detail: &Elements, out: &mut Vec<u8>) -> Result<(), Memory>
     ensures { OnOk result (out.new.items
         ≡ out.old.items ++ nodes_text (held_in (bare (codes "detail")) detail.now)) }
@@ -160,7 +160,7 @@ pub(crate) fn push_fault11(
 
 // ---- SequenceFault
 
-#[tactic(auto, unfolding(soap_nodes::specs::Node::tag_name))]
+#[tactic(auto, unfolding(soap_writer::specs::Nodes::Node::tag_name))]
 fn push_told_detail(alloc: Global, detail: &Elements, out: &mut Vec<u8>) -> Result<(), Memory>
     ensures { OnOk result (out.new.items
         ≡ out.old.items ++ nodes_text (held_in (r (codes "Detail")) detail.now)) }
@@ -175,7 +175,7 @@ fn push_told_detail(alloc: Global, detail: &Elements, out: &mut Vec<u8>) -> Resu
 }
 
 // The name of a subcode of WS-ReliableMessaging.
-#[tactic(auto, unfolding(soap_nodes::specs::Node::tag_name))]
+#[tactic(auto, unfolding(soap_writer::specs::Nodes::Node::tag_name))]
 fn push_fault_code(local: &[u8], out: &mut Vec<u8>) -> Result<(), Memory>
     ensures { OnOk result (out.new.items ≡ out.old.items
         ++ node_text (full (r (codes "FaultCode")) [] (words (codes "r:" ++ local.now)))) }

@@ -1,7 +1,7 @@
 //! Faults to bytes: SOAP 1.2 Part 1, section 5.4. Each writer of a piece appends it, up to a want of memory.
 ghost use Rattle.std.specs.Prelude.{◌≡◌, ◌++◌, [], ◌∷◌, OnOk, codes, map, false};
 ghost use Rattle.soap_document.specs.Profile.View.{element_view};
-ghost use Rattle.soap_nodes.specs.Node.{
+ghost use Rattle.soap_writer.specs.Nodes.Node.{
   tag_name,
   begin_text,
   note_text,
@@ -29,7 +29,7 @@ use crate::qname::{push_qname_declaration, qname};
 use crate::tag::Tag;
 use rm_base::{Blob, Memory};
 use rm_message::{FaultBody, FaultCode};
-use soap_nodes::{push_begin, push_close, push_leaf, push_start};
+use soap_writer::nodes::{push_begin, push_close, push_leaf, push_start};
 use soap_document::profile::{Element, Elements, Name};
 use soap_writer::{push_bytes, push_text, write_element};
 use std::alloc::Global;
@@ -100,7 +100,7 @@ fn push_code(alloc: Global, fault: &FaultBody, out: &mut Vec<u8>) -> Result<(), 
 }
 
 // That a text is in English.
-#[tactic(auto, unfolding(soap_nodes::specs::Node::note_text))]
+#[tactic(auto, unfolding(soap_writer::specs::Nodes::Node::note_text))]
 fn push_english(out: &mut Vec<u8>) -> Result<(), Memory>
     ensures { OnOk result (out.new.items ≡ out.old.items ++ note_text (of_xml (codes "lang") (codes "en"))) }
 {

@@ -1,10 +1,10 @@
 //! Names in values: the name of a header that was not understood, and a subcode.
 ghost use Rattle.std.specs.Prelude.{◌≡◌, ◌++◌, IfOk, OnOk};
-ghost use Rattle.soap_nodes.specs.Node.{notes_text};
+ghost use Rattle.soap_writer.specs.Nodes.Node.{notes_text};
 ghost use Rattle.message_writer.specs.Text.{qname as qname_text, qname_notes};
 
 use rm_base::Memory;
-use soap_nodes::push_declaration;
+use soap_writer::nodes::push_declaration;
 use soap_document::profile::Name;
 use soap_writer::push_bytes;
 use std::alloc::Global;

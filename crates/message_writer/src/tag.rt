@@ -1,6 +1,6 @@
 //! The names of what is written of SOAP, with the prefix that a frame binds to it.
 ghost use Rattle.std.specs.Prelude.{◌≡◌};
-ghost use Rattle.soap_nodes.specs.Node.{tag_name};
+ghost use Rattle.soap_writer.specs.Nodes.Node.{tag_name};
 ghost use Rattle.message_writer.specs.Text.{tag_of};
 
 /// An element of SOAP 1.2 Part 1, section 5.4.
@@ -18,7 +18,7 @@ pub enum Tag {
 
 impl Tag {
     /// Its written name.
-    #[tactic(auto, unfolding(soap_nodes::specs::Node::tag_name))]
+    #[tactic(auto, unfolding(soap_writer::specs::Nodes::Node::tag_name))]
     pub fn name(self) -> &'static [u8]
         ensures { result.now ≡ tag_name (tag_of self) }
     {

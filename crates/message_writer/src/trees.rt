@@ -10,7 +10,7 @@ ghost use Rattle.soap_document.specs.Profile.View.{
   attrs_view,
   parts_view,
 };
-ghost use Rattle.soap_nodes.specs.Node.{leaf, void, nothing, node_tree, nodes_tree, each_node};
+ghost use Rattle.soap_writer.specs.Nodes.Node.{leaf, void, nothing, node_tree, nodes_tree, each_node};
 ghost use Rattle.rm_elements.specs.Outcome.{rm};
 ghost use Rattle.rm_elements.specs.Texts.{r, range_node, nack_node, kind_nodes, final_nodes};
 ghost use Rattle.message_writer.specs.Faults.{ident_element, max_element, ack_element};

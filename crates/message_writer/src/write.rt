@@ -2,7 +2,7 @@
 ghost use Rattle.std.specs.Prelude.{◌≡◌, ◌++◌, IfOk, OnOk, map, option_map};
 ghost use Rattle.std.specs.Option.{option_to_list};
 ghost use Rattle.soap_envelope.specs.Soap.{soap_space};
-ghost use Rattle.soap_nodes.specs.Node.{node_text};
+ghost use Rattle.soap_writer.specs.Nodes.Node.{node_text};
 ghost use Rattle.rm_elements.specs.Texts.{sequence_node, ack_node, ask_node, pending_node};
 ghost use Rattle.message_writer.specs.Text.{
   not_understood_node,
@@ -23,7 +23,7 @@ use rm_elements::{
 };
 use rm_message::{Body, FaultBody, Message};
 use soap_frame::{begin_body, begin_envelope, end_envelope};
-use soap_nodes::{push_attribute, push_begin};
+use soap_writer::nodes::{push_attribute, push_begin};
 use soap_document::profile::Name;
 use soap_writer::push_bytes;
 use std::alloc::Global;

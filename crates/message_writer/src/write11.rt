@@ -2,7 +2,7 @@
 ghost use Rattle.std.specs.Prelude.{◌≡◌, ◌++◌, IfOk, OnOk, option_map, codes, decimal};
 ghost use Rattle.std.specs.Option.{option_to_list};
 ghost use Rattle.soap_writer.specs.Frame.{of_soap};
-ghost use Rattle.soap_nodes.specs.Node.{leaf, node_text, note_text, prefixed};
+ghost use Rattle.soap_writer.specs.Nodes.Node.{leaf, node_text, note_text, prefixed};
 ghost use Rattle.rm_elements.specs.Texts.{identifier_node, r};
 ghost use Rattle.message_writer.specs.Steps.{other11_text};
 ghost use Rattle.message_writer.specs.Text.{blocks_text};
@@ -23,13 +23,13 @@ use rm_base::{Blob, Ident, Memory};
 use rm_elements::{SeqHeader, Tag as Messaging};
 use rm_message::{Body, FaultBody, FaultCode, Message};
 use soap_frame::{begin_body, begin_envelope11, end_envelope};
-use soap_nodes::{push_begin, push_close, push_leaf, push_number};
+use soap_writer::nodes::{push_begin, push_close, push_leaf, push_number};
 use soap_writer::push_bytes;
 use std::alloc::Global;
 use wsa_headers::write_addressing;
 
 // That a block has to be understood.
-#[tactic(auto, unfolding(soap_nodes::specs::Node::note_text))]
+#[tactic(auto, unfolding(soap_writer::specs::Nodes::Node::note_text))]
 fn push_mark(out: &mut Vec<u8>) -> Result<(), Memory>
     ensures { OnOk result (out.new.items
         ≡ out.old.items ++ note_text (prefixed of_soap (codes "mustUnderstand") (codes "1"))) }

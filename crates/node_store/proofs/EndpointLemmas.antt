@@ -13,7 +13,7 @@ use Rattle.soap_document.specs.Profile.Payload.{height}
 use Rattle.soap_document.specs.Profile.Tree.{Element, attrs_of}
 use Rattle.soap_writer.specs.ElementText.{element_text}
 use Rattle.soap_writer.specs.Writable.{IsWritable}
-use Rattle.soap_stripped.specs.Resolved.{IsResolved}
+use Rattle.soap_writer.specs.Stripped.Resolved.{IsResolved}
 use Rattle.record_batch.specs.Writable.{IsEndpointWritable, IsParamWritable as IsParamRead}
 use Rattle.node_laws.specs.Sizes.Size.{capped, param_size}
 use Rattle.wsa_headers.specs.Endpoint.{mark_name, params_length}

@@ -5,7 +5,7 @@ use Rattle.std.specs.Prelude.{IfSome}
 use Rattle.std.specs.List.{AllByRecursion, filter}
 use Rattle.rm_base.specs.Text.{IsText}
 use Rattle.soap_document.specs.Profile.Tree.{Element}
-use Rattle.soap_stripped.specs.Resolved.{IsResolved}
+use Rattle.soap_writer.specs.Stripped.Resolved.{IsResolved}
 use Rattle.soap_values.specs.Outcome.{◌>>=◌, optional, each, if_present}
 use Rattle.soap_values.specs.TextLaws.{literal_is_text}
 use Rattle.wsa_headers.specs.Addressing.{is_header, is_marked, blocks_named, repeated, uri_header, epr_header}

@@ -12,7 +12,7 @@ use Rattle.soap_lex.specs.Facts.{same}
 use Rattle.rm_base.specs.declared.message.Binding.{Binding}
 use Rattle.soap_document.specs.Profile.Tree.{Element, Parts, name_of, parts_of, children_of}
 use Rattle.soap_document.specs.declared.profile.name.Expanded.{Expanded}
-use Rattle.soap_stripped.specs.Resolved.{AreInForce, IsResolved}
+use Rattle.soap_writer.specs.Stripped.Resolved.{AreInForce, IsResolved}
 use Rattle.soap_values.specs.Children.{name_in, has_name}
 use Rattle.soap_values.specs.Outcome.{◌>>=◌, single}
 use Rattle.wsa_headers.specs.Addressing.{first_of}

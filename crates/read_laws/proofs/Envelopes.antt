@@ -12,8 +12,8 @@ use Rattle.rm_base.specs.declared.message.Binding.{Binding}
 use Rattle.soap_envelope.specs.Envelope.{name_in, IsSpaced, bare, spaced, IsBodyAlone, IsOutline, headless, headed}
 use Rattle.soap_envelope.specs.Envelope.{IsHeader, without, blocks, Envelope, IsEnvelope}
 use Rattle.soap_envelope.specs.Scope.{declared, IsScope}
-use Rattle.soap_stripped.specs.Resolved.{IsBinding, AreInForce, IsResolved}
-use Rattle.soap_stripped.specs.ResolvedLaws.{none_in_force, more_in_force, children_resolved}
+use Rattle.soap_writer.specs.Stripped.Resolved.{IsBinding, AreInForce, IsResolved}
+use Rattle.soap_writer.specs.Stripped.ResolvedLaws.{none_in_force, more_in_force, children_resolved}
 
 -- the law of documents that this stands on
 abbrev pub Documents : Type 0

@@ -8,8 +8,8 @@ use Rattle.rm_base.specs.declared.message.Binding.{Binding}
 use Rattle.soap_document.specs.Profile.Tree.{Element, parts_of, children_of}
 use Rattle.soap_document.specs.declared.profile.name.Expanded.{Expanded}
 use Rattle.soap_writer.specs.Writable.{IsNameWritable}
-use Rattle.soap_stripped.specs.Resolved.{AreInForce, IsResolved}
-use Rattle.soap_stripped.specs.ResolvedLaws.{children_resolved}
+use Rattle.soap_writer.specs.Stripped.Resolved.{AreInForce, IsResolved}
+use Rattle.soap_writer.specs.Stripped.ResolvedLaws.{children_resolved}
 use Rattle.soap_values.specs.Children.{has_name, children_named}
 use Rattle.soap_values.specs.Outcome.{◌>>=◌, single, optional, if_present}
 use Rattle.soap_values.specs.QNames.{within, qname_in}

@@ -7,8 +7,8 @@ use Rattle.std.proofs.lemmas.Bool.{and_parts, leb-true}
 use Rattle.rm_base.specs.Text.{IsText}
 use Rattle.rm_base.specs.declared.message.Behaviour.{Behaviour}
 use Rattle.soap_document.specs.Profile.Tree.{Element, Parts, name_of, parts_of, children_of}
-use Rattle.soap_stripped.specs.Resolved.{IsResolved}
-use Rattle.soap_stripped.specs.ResolvedLaws.{children_resolved}
+use Rattle.soap_writer.specs.Stripped.Resolved.{IsResolved}
+use Rattle.soap_writer.specs.Stripped.ResolvedLaws.{children_resolved}
 use Rattle.soap_values.specs.Children.{has_name, children_named}
 use Rattle.soap_values.specs.Outcome.{◌>>=◌, optional, single, if_present}
 use Rattle.soap_values.specs.Values.{trimmed_text}

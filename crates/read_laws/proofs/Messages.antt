@@ -11,7 +11,7 @@ use Rattle.rm_base.specs.declared.message.Binding.{Binding}
 use Rattle.soap_document.specs.declared.profile.name.Expanded.{Expanded}
 use Rattle.soap_writer.specs.Writable.{IsNameWritable}
 use Rattle.soap_envelope.specs.Envelope.{Envelope}
-use Rattle.soap_stripped.specs.Resolved.{AreInForce, IsResolved}
+use Rattle.soap_writer.specs.Stripped.Resolved.{AreInForce, IsResolved}
 use Rattle.soap_values.specs.Children.{name_in, value_among}
 use Rattle.soap_values.specs.Outcome.{◌>>=◌, optional, if_present}
 use Rattle.soap_values.specs.QNames.{within, qname_in}

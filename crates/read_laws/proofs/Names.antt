@@ -16,8 +16,8 @@ use Rattle.soap_document.specs.Profile.Tree.{Element, decls_of}
 use Rattle.rm_base.specs.declared.message.Binding.{Binding}
 use Rattle.soap_document.specs.declared.profile.name.Expanded.{Expanded}
 use Rattle.soap_writer.specs.Writable.{IsNameWritable}
-use Rattle.soap_stripped.specs.Resolved.{IsBinding, AreInForce}
-use Rattle.soap_stripped.specs.ResolvedLaws.{more_in_force}
+use Rattle.soap_writer.specs.Stripped.Resolved.{IsBinding, AreInForce}
+use Rattle.soap_writer.specs.Stripped.ResolvedLaws.{more_in_force}
 use Rattle.soap_values.specs.QNames.{within, is_name_value, qname_in}
 use Rattle.read_laws.proofs.Lists.{all_flat_map}
 

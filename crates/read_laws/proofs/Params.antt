@@ -11,8 +11,8 @@ use Rattle.soap_document.specs.Profile.Tree.{parts_without}
 use Rattle.soap_document.specs.Profile.Tree.{attrs_of, parts_of, children_of}
 use Rattle.soap_document.specs.declared.profile.tree.Attr.{Attr}
 use Rattle.soap_writer.specs.Writable.{IsAttrWritable, IsWritable}
-use Rattle.soap_stripped.specs.Resolved.{IsResolved}
-use Rattle.soap_stripped.specs.ResolvedLaws.{children_resolved}
+use Rattle.soap_writer.specs.Stripped.Resolved.{IsResolved}
+use Rattle.soap_writer.specs.Stripped.ResolvedLaws.{children_resolved}
 use Rattle.soap_values.specs.Children.{has_name, children_named}
 use Rattle.soap_values.specs.Outcome.{◌>>=◌, single}
 use Rattle.wsa_headers.specs.Endpoint.{wsa, uri_of, address_in, mark_name, is_no_mark, unmarked, param}

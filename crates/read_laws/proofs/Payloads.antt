@@ -8,7 +8,7 @@ use Rattle.soap_document.specs.Profile.Payload.{depth as nested}
 use Rattle.soap_document.specs.Profile.Tree.{Element, Parts, none, text, child, children_of, decls_of}
 use Rattle.soap_document.specs.declared.profile.name.Expanded.{Expanded}
 use Rattle.soap_envelope.specs.Envelope.{Envelope, IsEnvelope, StandsFor}
-use Rattle.soap_stripped.specs.Resolved.{IsResolved}
+use Rattle.soap_writer.specs.Stripped.Resolved.{IsResolved}
 use Rattle.soap_values.specs.Children.{has_name}
 use Rattle.soap_values.specs.Outcome.{◌>>=◌, single, optional}
 use Rattle.wsa_headers.specs.declared.addressing.Addressing.{Addressing}

@@ -10,8 +10,9 @@ use Rattle.soap_lex.specs.Characters.{IsChars}
 use Rattle.soap_lex.specs.Tests.{is_nil}
 use Rattle.soap_document.specs.Profile.Tree.{Element, element, Parts, none, text, child, parts_without, parts_of}
 use Rattle.soap_writer.specs.Writable.{ArePartsWritable}
-use Rattle.soap_stripped.specs.CharLaws.{AreChars, AreHigh, chars_nil, chars_append, one_char, ascii_char, high_bytes}
-use Rattle.soap_stripped.specs.Resolved.{IsResolved}
+use Rattle.soap_writer.specs.Stripped.CharLaws.{AreChars, AreHigh, chars_nil, chars_append, one_char, ascii_char}
+use Rattle.soap_writer.specs.Stripped.CharLaws.{high_bytes}
+use Rattle.soap_writer.specs.Stripped.Resolved.{IsResolved}
 use Rattle.soap_values.specs.Children.{text_among}
 use Rattle.soap_values.specs.Values.{trimmed_start, trimmed_end, trimmed, trimmed_text}
 

@@ -7,7 +7,7 @@ use Rattle.soap_document.specs.Profile.Namespaces.{resolve_parts}
 use Rattle.soap_document.specs.Profile.Payload.{depth as nested}
 use Rattle.soap_document.specs.Profile.Tree.{Parts}
 use Rattle.soap_envelope.specs.Scope.{IsScope}
-use Rattle.soap_stripped.specs.Resolved.{AreInForce}
+use Rattle.soap_writer.specs.Stripped.Resolved.{AreInForce}
 
 -- a payload is content, which is these parts where this scope is in force around it: what is bound there may be
 -- declared, and two elements more may stand around it

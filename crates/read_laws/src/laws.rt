@@ -15,7 +15,7 @@ ghost use Rattle.read_laws.specs.WasRead.{WasRead, PayloadFits};
 
 use rm_wire::a_fault_keeps_the_rules;
 use soap_envelope::laws::payload_stands;
-use soap_stripped::laws::{elements_may_be_written, names_may_be_written};
+use soap_writer::stripped::laws::{elements_may_be_written, names_may_be_written};
 
 /// A message that bytes spell keeps the rules of those that are written, but for its payload.
 pub fn what_is_read_may_be_written()

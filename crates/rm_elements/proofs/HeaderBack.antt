@@ -8,9 +8,9 @@ use Rattle.std.proofs.lemmas.Bool.{le-ltb}
 use Rattle.std.proofs.lemmas.Bool.Decides.{nat_tests}
 use Rattle.rm_base.specs.Text.{IsText}
 use Rattle.soap_document.specs.Profile.Tree.{Element, element, Parts, none, text, attrs_of, parts_of}
-use Rattle.soap_nodes.specs.Node.{Tag as NodeTag, expanded_name, Node, Nodes, nothing, more, each_node}
-use Rattle.soap_nodes.specs.Node.{node_tree}
-use Rattle.soap_nodes.specs.Node.{nodes_tree}
+use Rattle.soap_writer.specs.Nodes.Node.{Tag as NodeTag, expanded_name, Node, Nodes, nothing, more, each_node}
+use Rattle.soap_writer.specs.Nodes.Node.{node_tree}
+use Rattle.soap_writer.specs.Nodes.Node.{nodes_tree}
 use Rattle.soap_values.specs.Children.{name_in, text_among, value_among, children_named, has_name}
 use Rattle.soap_values.specs.Outcome.{optional, each}
 use Rattle.soap_values.specs.EachLaws.{each_again}

@@ -5,8 +5,8 @@ use Rattle.rm_base.specs.Text.{IsText}
 use Rattle.rm_base.specs.declared.message.Binding.{Binding}
 use Rattle.soap_writer.specs.Frame.{frame_scope}
 use Rattle.soap_writer.specs.Plain.{chars_from}
-use Rattle.soap_nodes.specs.Good.{IsTagGood, IsGood, AreGood}
-use Rattle.soap_nodes.specs.Node.{tag_name, Node, Nodes, each_node}
+use Rattle.soap_writer.specs.Nodes.Good.{IsTagGood, IsGood, AreGood}
+use Rattle.soap_writer.specs.Nodes.Node.{tag_name, Node, Nodes, each_node}
 use Rattle.wsa_headers.specs.TextLaws.{text_writable}
 use Rattle.rm_sides.specs.declared.ranges.range.Range.{Range}
 use Rattle.rm_elements.specs.Texts.{tag_of, identifier_node, sequence_node, range_node, nack_node, final_nodes}

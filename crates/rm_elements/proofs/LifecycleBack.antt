@@ -10,7 +10,7 @@ use Rattle.rm_base.specs.declared.message.Behaviour.TheVariants.{NoDiscard, Enti
 use Rattle.xml_chars.specs.Classes.{is_space}
 use Rattle.soap_document.specs.Profile.Tree.{Element, element, Parts, none, text, parts_of}
 use Rattle.soap_document.specs.declared.profile.name.Expanded.{Expanded}
-use Rattle.soap_nodes.specs.Node.{Node, Nodes, nothing, more, leaf, node_tree, nodes_tree}
+use Rattle.soap_writer.specs.Nodes.Node.{Node, Nodes, nothing, more, leaf, node_tree, nodes_tree}
 use Rattle.soap_values.specs.Children.{is_same, has_name, children_named}
 use Rattle.soap_values.specs.Outcome.{◌>>=◌}
 use Rattle.soap_values.specs.TrimLaws.{trimmed_end-other}

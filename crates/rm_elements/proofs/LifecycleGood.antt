@@ -9,8 +9,8 @@ use Rattle.rm_base.specs.declared.message.Binding.{Binding}
 use Rattle.soap_writer.specs.Frame.{frame_scope}
 use Rattle.soap_writer.specs.Plain.{chars_from}
 use Rattle.soap_writer.specs.Writable.{IsTextWritable}
-use Rattle.soap_nodes.specs.Good.{IsGood, AreGood}
-use Rattle.soap_nodes.specs.Node.{Node, Nodes, leaf, more, nothing}
+use Rattle.soap_writer.specs.Nodes.Good.{IsGood, AreGood}
+use Rattle.soap_writer.specs.Nodes.Node.{Node, Nodes, leaf, more, nothing}
 use Rattle.wsa_headers.specs.TextLaws.{text_writable}
 use Rattle.wsa_headers.specs.Texts.{epr_nodes}
 use Rattle.wsa_headers.specs.Writable.{IsEprWritable}

@@ -2,9 +2,9 @@
 use Rattle.std.proofs.Common.{◌≡◌, ◌&&◌, ◌++◌, Bool, true, false, if◌then◌else◌, ℕ, List, [], ◌∷◌, Option, Some}
 use Rattle.std.proofs.Common.{None, nat_eq, codes, refl, sym, ap, ◌∙◌, append_assoc}
 use Rattle.std.proofs.lemmas.List.{append-nil}
-use Rattle.soap_nodes.specs.Node.{Tag, tag_name, Note, note_text, begin_text, Node, Nodes, void, nothing, more}
-use Rattle.soap_nodes.specs.Node.{leaf}
-use Rattle.soap_nodes.specs.Node.{each_node, node_text, nodes_text}
+use Rattle.soap_writer.specs.Nodes.Node.{Tag, tag_name, Note, note_text, begin_text, Node, Nodes, void, nothing, more}
+use Rattle.soap_writer.specs.Nodes.Node.{leaf}
+use Rattle.soap_writer.specs.Nodes.Node.{each_node, node_text, nodes_text}
 use Rattle.rm_elements.specs.Texts.{tag_of, kind_nodes, range_node, nack_node, expires_before, lapse_text}
 use Rattle.rm_elements.specs.Texts.{address_before}
 use Rattle.rm_elements.specs.declared.header.AckKind.{AckKind}

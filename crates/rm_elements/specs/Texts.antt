@@ -3,9 +3,9 @@
 use Rattle.std.specs.Prelude.{ℕ, ◌+◌, ◌/◌, ◌%◌, ◌&&◌, ◌==◌, List, [], ◌∷◌, ◌++◌, Bool, if◌then◌else◌, Option, Some}
 use Rattle.std.specs.Prelude.{None, codes, decimal}
 use Rattle.soap_writer.specs.Frame.{of_soap, of_messaging, of_connection}
-use Rattle.soap_nodes.specs.Node.{Tag as NodeTag, framed, Note, plain, prefixed, Node, Nodes, full, void}
-use Rattle.soap_nodes.specs.Node.{nothing}
-use Rattle.soap_nodes.specs.Node.{more, leaf, each_node}
+use Rattle.soap_writer.specs.Nodes.Node.{Tag as NodeTag, framed, Note, plain, prefixed, Node, Nodes, full, void}
+use Rattle.soap_writer.specs.Nodes.Node.{nothing}
+use Rattle.soap_writer.specs.Nodes.Node.{more, leaf, each_node}
 use Rattle.rm_sides.specs.declared.ranges.range.Range.{Range}
 use Rattle.rm_base.specs.declared.message.Behaviour.{Behaviour}
 use Rattle.rm_base.specs.declared.message.Behaviour.TheVariants.{NoDiscard, EntireSequence, FollowingFirstGap}

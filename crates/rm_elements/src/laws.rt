@@ -4,8 +4,8 @@
 ghost use Rattle.std.specs.Prelude.{◌≡◌, ℕ, List, Ok, None, Some};
 ghost use Rattle.soap_document.specs.Profile.Tree.{Element as Tree, name_of};
 ghost use Rattle.soap_writer.specs.Frame.{addressing_space, frame_scope};
-ghost use Rattle.soap_nodes.specs.Good.{IsGood};
-ghost use Rattle.soap_nodes.specs.Node.{node_tree};
+ghost use Rattle.soap_writer.specs.Nodes.Good.{IsGood};
+ghost use Rattle.soap_writer.specs.Nodes.Node.{node_tree};
 ghost use Rattle.wsa_headers.specs.Writable.{IsForeign};
 ghost use Rattle.rm_elements.specs.Deadline.{IsZero};
 ghost use Rattle.rm_elements.specs.Duration.{duration_in};

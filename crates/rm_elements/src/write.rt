@@ -1,6 +1,6 @@
 //! Header blocks and body elements to bytes. Each writer of a piece appends it, up to a want of memory.
 ghost use Rattle.std.specs.Prelude.{◌≡◌, ◌<◌, ◌++◌, OnOk, OnErr, IfOk, [], decimal, codes};
-ghost use Rattle.soap_nodes.specs.Node.{
+ghost use Rattle.soap_writer.specs.Nodes.Node.{
   tag_name,
   begin_text,
   node_text,
@@ -54,7 +54,7 @@ use crate::tag::Tag;
 use rm_sides::ranges::Range;
 use itoa::Buffer;
 use rm_base::{Behaviour, Blob, Ident, Lapse, Memory, Uri};
-use soap_nodes::{
+use soap_writer::nodes::{
     push_attribute, push_begin, push_close, push_leaf, push_number, push_start, push_void,
 };
 use soap_writer::push_bytes;
@@ -101,7 +101,7 @@ fn push_empty(tag: Tag, out: &mut Vec<u8>) -> Result<(), Memory>
 }
 
 // That a block has to be understood.
-#[tactic(auto, unfolding(soap_nodes::specs::Node::note_text))]
+#[tactic(auto, unfolding(soap_writer::specs::Nodes::Node::note_text))]
 fn push_must(out: &mut Vec<u8>) -> Result<(), Memory>
     ensures { OnOk result (out.new.items ≡ out.old.items ++ note_text must) }
 {

@@ -11,7 +11,7 @@ use Rattle.soap_document.specs.Profile.Tree.{Element, element, none, name_of, ch
 use Rattle.soap_document.specs.declared.profile.name.Expanded.{Expanded}
 use Rattle.soap_document.specs.declared.profile.tree.Attr.{Attr}
 use Rattle.soap_writer.specs.Frame.{addressing_space}
-use Rattle.soap_nodes.specs.Node.{Node, Nodes, nothing, words, more, declared, note_attrs, node_tree, nodes_tree}
+use Rattle.soap_writer.specs.Nodes.Node.{Node, Nodes, nothing, words, more, declared, note_attrs, node_tree, nodes_tree}
 use Rattle.soap_values.specs.Children.{name_in}
 use Rattle.wsa_headers.specs.Texts.{addressing_nodes}
 use Rattle.wsa_headers.specs.Writable.{addressing_blocks, IsAddressingBlock}

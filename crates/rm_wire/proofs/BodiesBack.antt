@@ -10,7 +10,7 @@ use Rattle.soap_document.specs.Profile.Tree.{Element, Parts, none, child, name_o
 use Rattle.soap_document.specs.declared.profile.name.Expanded.{Expanded}
 use Rattle.soap_frame.specs.Framed.{sorted_scope}
 use Rattle.soap_envelope.specs.Soap.{is_soap11}
-use Rattle.soap_nodes.specs.Node.{node_tree}
+use Rattle.soap_writer.specs.Nodes.Node.{node_tree}
 use Rattle.soap_values.specs.Children.{name_in, has_name}
 use Rattle.wsa_headers.specs.Addressing.{first_of}
 use Rattle.wsa_headers.specs.declared.addressing.Addressing.{Addressing}

@@ -18,8 +18,8 @@ use Rattle.soap_writer.specs.Frame.{frame_scope}
 use Rattle.soap_writer.specs.Plain.{is_plain_name, is_plain_text, name_from, chars_from}
 use Rattle.soap_writer.specs.Writable.{IsNameWritable, IsAttrWritable, IsTagWritable, IsWritable}
 use Rattle.soap_writer.specs.Writable.{ArePartsWritable}
-use Rattle.soap_nodes.specs.Good.{IsGood, AreGood}
-use Rattle.soap_nodes.specs.Node.{Nodes, each_node, node_tree, nodes_tree}
+use Rattle.soap_writer.specs.Nodes.Good.{IsGood, AreGood}
+use Rattle.soap_writer.specs.Nodes.Node.{Nodes, each_node, node_tree, nodes_tree}
 use Rattle.soap_values.specs.TextLaws.{literal_is_text}
 use Rattle.soap_values.specs.Values.{trimmed}
 use Rattle.wsa_headers.specs.TextLaws.{text_writable}

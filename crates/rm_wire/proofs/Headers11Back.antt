@@ -4,7 +4,7 @@ use Rattle.std.proofs.Common.{codes, map, refl, ◌∙◌}
 use Rattle.std.specs.List.{AllByRecursion, filter}
 use Rattle.soap_document.specs.Profile.Tree.{Element}
 use Rattle.soap_document.specs.declared.profile.name.Expanded.{Expanded}
-use Rattle.soap_nodes.specs.Node.{node_tree}
+use Rattle.soap_writer.specs.Nodes.Node.{node_tree}
 use Rattle.wsa_headers.specs.Writable.{IsAddressingBlock, IsForeign}
 use Rattle.rm_elements.specs.Outcome.{rm, mc}
 use Rattle.rm_message.specs.declared.message.Body.{Body}

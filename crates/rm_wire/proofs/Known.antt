@@ -4,7 +4,7 @@ use Rattle.std.specs.List.{AllByRecursion}
 use Rattle.soap_document.specs.Profile.Tree.{Element, without_declarations}
 use Rattle.soap_writer.specs.ReadBack.{written_tree}
 use Rattle.soap_writer.specs.Writable.{IsWritable}
-use Rattle.soap_nodes.specs.Node.{node_tree}
+use Rattle.soap_writer.specs.Nodes.Node.{node_tree}
 use Rattle.wsa_headers.specs.Addressing.{addressing_in}
 use Rattle.wsa_headers.specs.Writable.{IsAddressingWritable, addressing_blocks, IsAddressingBlock, IsForeign}
 use Rattle.wsa_headers.specs.declared.addressing.Addressing.{Addressing}

@@ -7,7 +7,7 @@ ghost use Rattle.soap_document.specs.Profile.Tree.{Parts};
 ghost use Rattle.soap_frame.specs.Framed.{MayBeSoap, sorted_scope};
 ghost use Rattle.soap_frame.specs.Tagged.{tagged_envelope};
 ghost use Rattle.soap_envelope.specs.Soap.{soap_space, soap11_space, is_soap11};
-ghost use Rattle.soap_nodes.specs.Node.{node_tree};
+ghost use Rattle.soap_writer.specs.Nodes.Node.{node_tree};
 ghost use Rattle.wsa_headers.specs.Addressing.{first_of};
 ghost use Rattle.soap_writer.specs.Frame.{addressing_space};
 ghost use Rattle.rm_elements.specs.declared.header.AckBlock.{AckBlock as Acknowledgement};

@@ -26,7 +26,7 @@ use Rattle.soap_envelope.specs.Scope.{Rises}
 use Rattle.soap_envelope.specs.Soap.{soap_space}
 use Rattle.soap_document.specs.Profile.Namespaces.{bound, may_bind}
 use Rattle.soap_frame.specs.BodyTag.{AreApart}
-use Rattle.soap_stripped.specs.Resolved.{IsBinding, AreInForce}
+use Rattle.soap_writer.specs.Stripped.Resolved.{IsBinding, AreInForce}
 use Rattle.soap11_gate.specs.Lift.{numbered_prefix, IsFirstFree}
 
 -- ---- numbered prefixes

@@ -33,7 +33,7 @@ use Rattle.rm_message.specs.declared.message.Body.TheVariants as body
 use Rattle.rm_message.specs.declared.message.Message.{Message}
 use Rattle.message_reader.specs.Message.{message_in}
 use Rattle.message_reader.specs.Refusals.{Spells}
-use Rattle.soap_stripped.specs.Resolved.{IsBindable, IsBinding}
+use Rattle.soap_writer.specs.Stripped.Resolved.{IsBindable, IsBinding}
 use Rattle.message_writer.specs.Rules.{KeepsRules, HeaderKeepsRules, protocol_actions, NoFaultFirst, header_trees}
 use Rattle.message_writer.specs.Rules.{written_blocks}
 use Rattle.message_writer.specs.Text.{header_blocks, blocks_text, message_text}

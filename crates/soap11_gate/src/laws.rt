@@ -8,7 +8,7 @@ ghost use Rattle.soap_envelope.specs.Soap.{soap_space};
 ghost use Rattle.soap_document.specs.Profile.Tree.{Element as Tree};
 ghost use Rattle.soap_frame.specs.BodyTag.{body_bindings};
 ghost use Rattle.soap_writer.specs.Frame.{frame_scope};
-ghost use Rattle.soap_nodes.specs.Node.{node_text};
+ghost use Rattle.soap_writer.specs.Nodes.Node.{node_text};
 ghost use Rattle.rm_message.specs.declared.message.Body.TheVariants as body;
 ghost use Rattle.rm_message.specs.declared.message.Message.{Message as Value};
 ghost use Rattle.rm_message.specs.declared.refusal.FaultKind.{FaultKind as Kind};

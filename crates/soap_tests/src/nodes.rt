@@ -1,6 +1,6 @@
 //! The pieces of an element within a frame.
 use rm_base::Memory;
-use soap_nodes::{
+use soap_writer::nodes::{
     push_attribute, push_begin, push_close, push_declaration, push_leaf, push_number, push_void,
 };
 use soap_writer::{push_bytes, push_text};

@@ -3,3 +3,5 @@ pub mod Raws
 pub mod Expands
 pub mod Apart
 pub mod Back
+pub mod NodesLemmas
+pub mod StrippedLemmas

@@ -4,3 +4,5 @@ pub mod Plain
 pub mod ReadBack
 pub mod Steps
 pub mod Writable
+pub mod Nodes
+pub mod Stripped

@@ -8,7 +8,7 @@ use Rattle.rm_base.specs.Text.{IsText}
 use Rattle.soap_document.specs.Profile.Tree.{Element, element, none, text, name_of, children_of}
 use Rattle.soap_writer.specs.Frame.{addressing_space}
 use Rattle.soap_writer.specs.ReadBack.{written_tree}
-use Rattle.soap_nodes.specs.Node.{Nodes, nodes_tree}
+use Rattle.soap_writer.specs.Nodes.Node.{Nodes, nodes_tree}
 use Rattle.wsa_headers.specs.Addressing.{is_marked, is_header, blocks_named, is_repeated, repeated, uri_header}
 use Rattle.wsa_headers.specs.Addressing.{epr_header, relates_in, params_of, replies_in, properties_in, addressing_in}
 use Rattle.wsa_headers.specs.Endpoint.{wsa, param}

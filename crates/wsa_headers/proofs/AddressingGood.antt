@@ -6,8 +6,8 @@ use Rattle.rm_base.specs.Text.{IsText}
 use Rattle.soap_document.specs.Profile.Tree.{Element}
 use Rattle.soap_writer.specs.Frame.{frame_scope}
 use Rattle.soap_writer.specs.ReadBack.{MarkFits}
-use Rattle.soap_nodes.specs.Good.{IsTagGood, IsGood, AreGood}
-use Rattle.soap_nodes.specs.Node.{tag_name, Nodes, leaf}
+use Rattle.soap_writer.specs.Nodes.Good.{IsTagGood, IsGood, AreGood}
+use Rattle.soap_writer.specs.Nodes.Node.{tag_name, Nodes, leaf}
 use Rattle.wsa_headers.specs.TextLaws.{text_writable}
 use Rattle.wsa_headers.specs.Texts.{tag_of, params_nodes, holder_nodes, epr_nodes, uri_before, epr_before}
 use Rattle.wsa_headers.specs.Texts.{addressing_nodes}

@@ -1,7 +1,7 @@
 -- One header before others.
 use Rattle.std.proofs.Common.{◌≡◌, ◌++◌, ℕ, List, [], Option, Some, None, refl, sym, ap, ◌∙◌, append_assoc}
 use Rattle.std.proofs.lemmas.List.{append-nil}
-use Rattle.soap_nodes.specs.Node.{Node, Nodes, full, nothing, more, leaf, node_text, nodes_text}
+use Rattle.soap_writer.specs.Nodes.Node.{Node, Nodes, full, nothing, more, leaf, node_text, nodes_text}
 use Rattle.wsa_headers.specs.Texts.{tag_of, epr_nodes, uri_before, epr_before}
 use Rattle.wsa_headers.specs.declared.endpoint.Epr.{Epr}
 use Rattle.wsa_headers.specs.declared.tag.Tag.{Tag}

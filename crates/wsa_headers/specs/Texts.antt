@@ -4,7 +4,7 @@
 use Rattle.std.specs.Prelude.{ℕ, List, [], ◌∷◌, Bool, true, false, Option, Some, None, codes}
 use Rattle.soap_document.specs.Profile.Tree.{Element}
 use Rattle.soap_writer.specs.Frame.{of_addressing}
-use Rattle.soap_nodes.specs.Node.{Tag as NodeTag, framed, Nodes, full, whole, nothing, more, leaf, each_node}
+use Rattle.soap_writer.specs.Nodes.Node.{Tag as NodeTag, framed, Nodes, full, whole, nothing, more, leaf, each_node}
 use Rattle.wsa_headers.specs.declared.addressing.Addressing.{Addressing}
 use Rattle.wsa_headers.specs.declared.endpoint.Epr.{Epr}
 use Rattle.wsa_headers.specs.declared.tag.Tag.{Tag}

@@ -9,7 +9,7 @@ use Rattle.soap_document.specs.Profile.Payload.{height}
 use Rattle.soap_document.specs.Profile.Tree.{Element, name_of, attrs_of, children_of}
 use Rattle.soap_writer.specs.Frame.{addressing_space}
 use Rattle.soap_writer.specs.Writable.{IsWritable}
-use Rattle.soap_nodes.specs.Node.{nodes_tree}
+use Rattle.soap_writer.specs.Nodes.Node.{nodes_tree}
 use Rattle.wsa_headers.specs.Addressing.{is_marked}
 use Rattle.wsa_headers.specs.Endpoint.{mark_name, params_length}
 use Rattle.wsa_headers.specs.Texts.{addressing_nodes}

@@ -1,6 +1,6 @@
 //! The names of what is written, with the prefix that a frame binds to WS-Addressing.
 ghost use Rattle.std.specs.Prelude.{◌≡◌};
-ghost use Rattle.soap_nodes.specs.Node.{tag_name};
+ghost use Rattle.soap_writer.specs.Nodes.Node.{tag_name};
 ghost use Rattle.wsa_headers.specs.Texts.{tag_of};
 
 /// An element of WS-Addressing.
@@ -18,7 +18,7 @@ pub enum Tag {
 
 impl Tag {
     /// Its written name.
-    #[tactic(auto, unfolding(soap_nodes::specs::Node::tag_name))]
+    #[tactic(auto, unfolding(soap_writer::specs::Nodes::Node::tag_name))]
     pub fn name(self) -> &'static [u8]
         ensures { result.now ≡ tag_name (tag_of self) }
     {

@@ -2,7 +2,7 @@
 ghost use Rattle.std.specs.Prelude.{◌≡◌, ◌++◌, map, true, OnOk, OnErr};
 ghost use Rattle.soap_document.specs.Profile.View.{element_view};
 ghost use Rattle.soap_writer.specs.ElementText.{element_text};
-ghost use Rattle.soap_nodes.specs.Node.{node_text, nodes_text, full, leaf, nothing};
+ghost use Rattle.soap_writer.specs.Nodes.Node.{node_text, nodes_text, full, leaf, nothing};
 ghost use Rattle.wsa_headers.specs.Texts.{
   tag_of,
   params_nodes,
@@ -17,7 +17,7 @@ use crate::addressing::Addressing;
 use crate::endpoint::Epr;
 use crate::tag::Tag;
 use rm_base::{Blob, Memory, Uri};
-use soap_nodes::{push_close, push_leaf, push_start};
+use soap_writer::nodes::{push_close, push_leaf, push_start};
 use soap_document::profile::{Element, Elements};
 use soap_writer::write_element;
 use std::alloc::Global;

@@ -21,7 +21,7 @@ use Rattle.soap_document.specs.Profile.Document.{Document}
 use Rattle.soap_document.specs.Profile.Tree as tree
 use Rattle.soap_document.specs.declared.profile.name.Expanded.{Expanded}
 use Rattle.soap_writer.specs.Writable.{IsNameWritable, IsWritable, ArePartsWritable}
-use Rattle.soap_stripped.specs.Resolved.{IsResolved}
+use Rattle.soap_writer.specs.Stripped.Resolved.{IsResolved}
 use Rattle.rm_policy.specs.Assertion.{assertion_in, optional_in}
 use Rattle.rm_policy.specs.declared.assertion.Assertion.{Assertion}
 use Rattle.wsp_alternatives.proofs.LawLemmas.{found, list_cmp_total, list_cmp_exact}

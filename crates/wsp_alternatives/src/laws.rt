@@ -11,7 +11,7 @@ ghost use Rattle.wsp_alternatives.specs.declared.error.WspError.TheVariants.{Mem
 ghost use Rattle.wsp_alternatives.specs.declared.term.Term.{Term as ATerm};
 
 use soap_document::laws::one_tree;
-use soap_stripped::laws::elements_may_be_written;
+use soap_writer::stripped::laws::elements_may_be_written;
 
 /// A policy has one normal form at most, and two policies have the same exactly where they admit the same sets.
 pub fn normal_forms_tell()

@@ -1,5 +1,5 @@
 use Rattle.std.proofs.Common.{codes}
-use Rattle.soap_nodes.specs.Node.{tag_name}
+use Rattle.soap_writer.specs.Nodes.Node.{tag_name}
 use Rattle.message_writer.proofs.TextLemmas.{around_two}
 use Rattle.message_writer.proofs.fault11_text.push_fault_code.Goals as goal
 

@@ -1,6 +1,6 @@
 use Rattle.std.proofs.Common.{◌≡◌, ◌++◌, ℕ, List, codes, subst}
 use Rattle.std.specs.Prelude.{OnOk}
-use Rattle.soap_nodes.specs.Node.{node_text}
+use Rattle.soap_writer.specs.Nodes.Node.{node_text}
 use Rattle.message_writer.specs.Faults11.{plain_leaf}
 use Rattle.message_writer.proofs.fault11_text.push_faultstring.Goals as goal
 

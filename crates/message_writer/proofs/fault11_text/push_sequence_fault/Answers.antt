@@ -1,4 +1,4 @@
-use Rattle.soap_nodes.specs.Node.{tag_name}
+use Rattle.soap_writer.specs.Nodes.Node.{tag_name}
 use Rattle.message_writer.proofs.TextLemmas.{around_two}
 use Rattle.message_writer.proofs.fault11_text.push_sequence_fault.Goals as goal
 

@@ -1,6 +1,6 @@
 use Rattle.std.proofs.Common.{◌≡◌, ◌++◌, drop, map, false}
 use Rattle.soap_document.specs.Profile.View.{element_view}
-use Rattle.soap_nodes.specs.Node.{nodes_text}
+use Rattle.soap_writer.specs.Nodes.Node.{nodes_text}
 use Rattle.wsa_headers.specs.Texts.{params_nodes}
 use Rattle.message_writer.proofs.fault_text.push_elements.Given as goal
 

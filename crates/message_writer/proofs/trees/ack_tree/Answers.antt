@@ -2,7 +2,7 @@ use Rattle.std.proofs.Common.{◌∙◌, codes}
 use Rattle.soap_envelope.specs.Soap.{soap_space}
 use Rattle.soap_document.specs.Profile.Tree.{child}
 use Rattle.soap_document.specs.Profile.View.{items_view}
-use Rattle.soap_nodes.specs.Node.{nodes_tree}
+use Rattle.soap_writer.specs.Nodes.Node.{nodes_tree}
 use Rattle.rm_elements.specs.Outcome.{rm}
 use Rattle.rm_elements.specs.Texts.{kind_nodes, final_nodes}
 use Rattle.message_writer.specs.Faults.{ident_element}

@@ -2,7 +2,7 @@ use Rattle.std.proofs.Common.{◌≡◌, ◌++◌, drop}
 use Rattle.soap_document.specs.Profile.Items.{listed}
 use Rattle.soap_envelope.specs.Soap.{soap_space}
 use Rattle.soap_document.specs.Profile.View.{items_view}
-use Rattle.soap_nodes.specs.Node.{nothing, each_node, nodes_tree}
+use Rattle.soap_writer.specs.Nodes.Node.{nothing, each_node, nodes_tree}
 use Rattle.rm_elements.specs.Texts.{range_node}
 use Rattle.message_writer.proofs.trees.push_ranges.Given as goal
 

@@ -1,5 +1,5 @@
 use Rattle.std.proofs.Common.{◌++◌, ◌∙◌, sym, ap, append_assoc}
-use Rattle.soap_nodes.specs.Node.{nodes_text}
+use Rattle.soap_writer.specs.Nodes.Node.{nodes_text}
 use Rattle.wsa_headers.specs.Texts.{addressing_nodes}
 use Rattle.message_writer.specs.Steps.{other_text}
 use Rattle.message_writer.proofs.TextLemmas.{header_text}

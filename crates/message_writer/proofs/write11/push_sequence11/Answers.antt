@@ -1,4 +1,4 @@
-use Rattle.soap_nodes.specs.Node.{tag_name}
+use Rattle.soap_writer.specs.Nodes.Node.{tag_name}
 use Rattle.message_writer.proofs.TextLemmas.{noted_two}
 use Rattle.message_writer.proofs.write11.push_sequence11.Goals as goal
 

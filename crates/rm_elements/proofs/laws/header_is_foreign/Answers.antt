@@ -1,7 +1,7 @@
 use Rattle.std.proofs.Common.{◌≡◌, ℕ, Bool, true, false, ◌&&◌, List, None, Ok, codes, refl}
 use Rattle.std.specs.Str.{bytes_eq}
 use Rattle.soap_document.specs.Profile.Tree.{Element, name_of}
-use Rattle.soap_nodes.specs.Node.{node_tree}
+use Rattle.soap_writer.specs.Nodes.Node.{node_tree}
 use Rattle.soap_writer.specs.Frame.{addressing_space, messaging_space, connection_space}
 use Rattle.wsa_headers.specs.Writable.{IsForeign}
 use Rattle.rm_elements.specs.Headers.{header_of}

@@ -1,5 +1,5 @@
 use Rattle.std.proofs.Common.{◌≡◌, ◌++◌, drop}
-use Rattle.soap_nodes.specs.Node.{nodes_text, nothing, each_node}
+use Rattle.soap_writer.specs.Nodes.Node.{nodes_text, nothing, each_node}
 use Rattle.rm_elements.specs.Texts.{nack_node}
 use Rattle.rm_elements.proofs.write.push_nacks.Given as goal
 

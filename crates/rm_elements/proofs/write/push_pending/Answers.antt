@@ -1,5 +1,5 @@
 use Rattle.std.proofs.Common.{◌∙◌, ◌++◌, ap, codes}
-use Rattle.soap_nodes.specs.Node.{begin_text, note_text, plain}
+use Rattle.soap_writer.specs.Nodes.Node.{begin_text, note_text, plain}
 use Rattle.rm_elements.specs.Texts.{tag_of, flag_text}
 use Rattle.rm_elements.specs.declared.tag.Tag.TheVariants as tags
 use Rattle.rm_elements.proofs.NodeLemmas.{marked_text}

@@ -1,5 +1,5 @@
 use Rattle.std.proofs.Common.{◌∙◌, ◌++◌, sym, ap, append_assoc}
-use Rattle.soap_nodes.specs.Node.{nodes_text, nothing}
+use Rattle.soap_writer.specs.Nodes.Node.{nodes_text, nothing}
 use Rattle.rm_elements.specs.Texts.{kind_nodes, final_nodes}
 use Rattle.rm_elements.proofs.NodeLemmas.{kind_first}
 use Rattle.rm_elements.proofs.write.push_rest.Goals as goal

@@ -1,5 +1,5 @@
 use Rattle.std.proofs.Common.{◌∙◌, ◌++◌, ap, true}
-use Rattle.soap_nodes.specs.Node.{node_text, nodes_text, nothing, leaf}
+use Rattle.soap_writer.specs.Nodes.Node.{node_text, nodes_text, nothing, leaf}
 use Rattle.wsa_headers.specs.Texts.{tag_of, params_nodes, uri_before, epr_before}
 use Rattle.wsa_headers.specs.declared.tag.Tag.TheVariants as tags
 use Rattle.wsa_headers.proofs.Texts.{addresses_text}

@@ -1,6 +1,6 @@
 use Rattle.std.proofs.Common.{◌≡◌, ◌++◌, drop, map}
 use Rattle.soap_document.specs.Profile.View.{element_view}
-use Rattle.soap_nodes.specs.Node.{nodes_text}
+use Rattle.soap_writer.specs.Nodes.Node.{nodes_text}
 use Rattle.wsa_headers.specs.Texts.{params_nodes}
 use Rattle.wsa_headers.proofs.write.push_params.Given as goal
 

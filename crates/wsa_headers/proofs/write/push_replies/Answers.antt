@@ -1,5 +1,5 @@
 use Rattle.std.proofs.Common.{◌∙◌, ◌++◌, ap, true}
-use Rattle.soap_nodes.specs.Node.{nodes_text, nothing}
+use Rattle.soap_writer.specs.Nodes.Node.{nodes_text, nothing}
 use Rattle.wsa_headers.specs.Texts.{params_nodes, epr_before}
 use Rattle.wsa_headers.specs.declared.tag.Tag.TheVariants as tags
 use Rattle.wsa_headers.proofs.Texts.{replies_text}

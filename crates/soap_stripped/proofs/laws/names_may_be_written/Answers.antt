@@ -1,6 +1,0 @@
-use Rattle.soap_stripped.proofs.Names.{parted}
-use Rattle.soap_stripped.proofs.Spaces.{element_named}
-use Rattle.soap_stripped.proofs.laws.names_may_be_written.Goals as goal
-
-pub returns : goal.returns
-returns c = λ scope written name outer q e. element_named scope outer written name (parted q).local e

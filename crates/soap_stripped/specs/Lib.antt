@@ -1,3 +1,0 @@
-pub mod CharLaws
-pub mod Resolved
-pub mod ResolvedLaws

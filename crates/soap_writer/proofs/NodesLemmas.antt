@@ -1,0 +1,2 @@
+-- The lemmas of `nodes`.
+pub mod NodeBack

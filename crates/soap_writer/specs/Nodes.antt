@@ -1,0 +1,3 @@
+-- The definitions of `nodes`.
+pub mod Good
+pub mod Node

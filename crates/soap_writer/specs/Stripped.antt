@@ -1,0 +1,4 @@
+-- The definitions of `stripped`.
+pub mod CharLaws
+pub mod Resolved
+pub mod ResolvedLaws

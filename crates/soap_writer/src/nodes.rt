@@ -1,0 +1,11 @@
+//! Elements within a frame, with the prefixes that it binds, to bytes: the pieces that their writers append, and the
+//! law that what is written is read back exactly, whatever the namespace of SOAP. It stands on `soap_writer`.
+//! The layers above may use the nodes of `specs/Node`, the contracts of the pieces, and the laws.
+
+pub mod laws;
+pub mod pieces;
+
+pub use pieces::{
+    push_attribute, push_begin, push_close, push_declaration, push_leaf, push_number, push_start,
+    push_void,
+};
