@@ -17,7 +17,8 @@ use Rattle.soap_envelope.specs.Envelope.{IsEnvelope}
 use Rattle.soap_writer.specs.Frame.{frame_scope}
 use Rattle.soap_writer.specs.ReadBack.{ReadsAs, ContentReadsAs}
 use Rattle.soap_writer.specs.Writable.{IsNameWritable}
-use Rattle.soap_frame.specs.Framed.{Block, IsBlock, MayBeSoap, bytes_of, trees_of, framed_text, framed_envelope}
+use Rattle.soap_envelope.specs.Frame.Framed.{Block, IsBlock, MayBeSoap, bytes_of, trees_of, framed_text}
+use Rattle.soap_envelope.specs.Frame.Framed.{framed_envelope}
 use Rattle.soap_writer.specs.Nodes.Good.{IsGood, AreGood}
 use Rattle.soap_writer.specs.Nodes.Node.{Node, Nodes, nothing, words, more, node_text, node_tree}
 use Rattle.wsa_headers.specs.Texts.{addressing_nodes}

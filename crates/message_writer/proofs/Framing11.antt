@@ -7,7 +7,7 @@ use Rattle.soap_envelope.specs.Soap.{soap11_space}
 use Rattle.soap_writer.specs.Frame.{frame_scope}
 use Rattle.soap_writer.specs.Plain.{chars_from}
 use Rattle.soap_writer.specs.ReadBack.{ContentReadsAs}
-use Rattle.soap_frame.specs.Framed.{MayBeSoap, framed_envelope}
+use Rattle.soap_envelope.specs.Frame.Framed.{MayBeSoap, framed_envelope}
 use Rattle.soap_writer.specs.Nodes.Node.{node_tree}
 use Rattle.rm_elements.specs.Writable.{IsSequenceWritable}
 use Rattle.rm_elements.specs.declared.header.Header.TheVariants as headers

@@ -10,7 +10,7 @@ use Rattle.soap_document.specs.Profile.Tree.{Element, Parts, none, child, name_o
 use Rattle.soap_document.specs.declared.profile.name.Expanded.{Expanded}
 use Rattle.soap_envelope.specs.Envelope.{Envelope, name_in}
 use Rattle.soap_writer.specs.Writable.{IsNameWritable, IsWritable}
-use Rattle.soap_frame.specs.Framed.{Block, sorted_scope, framed_envelope}
+use Rattle.soap_envelope.specs.Frame.Framed.{Block, sorted_scope, framed_envelope}
 use Rattle.soap_writer.specs.Nodes.Node.{Node, node_text, node_tree}
 use Rattle.soap_values.specs.Values.{trimmed}
 use Rattle.wsa_headers.specs.Addressing.{first_of}

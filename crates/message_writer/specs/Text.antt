@@ -11,7 +11,7 @@ use Rattle.soap_document.specs.Profile.Tree.{Element}
 use Rattle.soap_document.specs.declared.profile.name.Expanded.{Expanded}
 use Rattle.soap_writer.specs.ElementText.{written_name}
 use Rattle.soap_writer.specs.Frame.{of_soap}
-use Rattle.soap_frame.specs.Framed.{framed_text}
+use Rattle.soap_envelope.specs.Frame.Framed.{framed_text}
 use Rattle.soap_writer.specs.Nodes.Node.{Tag as NodeTag, framed, Note, plain, of_xml, declared, Node, Nodes, full, void}
 use Rattle.soap_writer.specs.Nodes.Node.{nothing, words, more, leaf, node_text}
 use Rattle.wsa_headers.specs.Texts.{addressing_nodes, params_nodes}

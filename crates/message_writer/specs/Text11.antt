@@ -4,7 +4,7 @@ use Rattle.std.specs.Prelude.{codes, map, option_map, decimal}
 use Rattle.std.specs.Option.{option_to_list}
 use Rattle.soap_envelope.specs.Soap.{soap11_space}
 use Rattle.soap_document.specs.Profile.Tree.{Parts, none, child}
-use Rattle.soap_frame.specs.Framed.{framed_text}
+use Rattle.soap_envelope.specs.Frame.Framed.{framed_text}
 use Rattle.soap_writer.specs.Frame.{of_soap}
 use Rattle.soap_writer.specs.Nodes.Node.{prefixed, Node, full, nothing, more, leaf, node_text, node_tree}
 use Rattle.wsa_headers.specs.Texts.{addressing_nodes}

@@ -4,7 +4,7 @@ ghost use Rattle.std.specs.Prelude.{◌≡◌, ℕ, List, map};
 ghost use Rattle.std.specs.List.{AllByRecursion};
 ghost use Rattle.soap_envelope.specs.Envelope.{IsEnvelope};
 ghost use Rattle.soap_envelope.specs.Soap.{soap11_space};
-ghost use Rattle.soap_frame.specs.Framed.{IsBlock, MayBeSoap, bytes_of, framed_envelope, trees_of};
+ghost use Rattle.soap_envelope.specs.Frame.Framed.{IsBlock, MayBeSoap, bytes_of, framed_envelope, trees_of};
 ghost use Rattle.soap_writer.specs.Nodes.Node.{node_tree};
 ghost use Rattle.rm_message.specs.declared.message.Message.{Message as Value};
 ghost use Rattle.message_writer.specs.Rules.{HeaderKeepsRules, KeepsRules, header_trees, message_envelope};
@@ -18,7 +18,7 @@ ghost use Rattle.message_writer.specs.Text11.{
 };
 
 use rm_elements::{header_is_good, lifecycle_is_good};
-use soap_frame::laws::{closed_content_is_read_alike, frame_is_an_envelope};
+use soap_envelope::frame::laws::{closed_content_is_read_alike, frame_is_an_envelope};
 use soap_writer::nodes::laws::node_is_read_back;
 use soap_writer::laws::content_is_read_back;
 use wsa_headers::addressing_is_good;

@@ -1,6 +1,6 @@
 //! Whole messages to bytes, and the faults that refusals are answered with. It stands on the types of messages,
 //! `rm_message`, on header blocks and body elements, `rm_elements`, on addressing headers, `wsa_headers`, and on the
-//! frame of an envelope, `soap_frame`. The layers above may use the contracts and the laws, by `specs/`.
+//! frame of an envelope, `soap_envelope::frame`. The layers above may use the contracts and the laws, by `specs/`.
 #![tactic(auto)]
 
 pub mod fault;

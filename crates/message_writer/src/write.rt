@@ -22,7 +22,7 @@ use rm_elements::{
     AckBlock, SeqHeader, push_ack, push_ask, push_pending, push_sequence, write_lifecycle,
 };
 use rm_message::{Body, FaultBody, Message};
-use soap_frame::{begin_body, begin_envelope, end_envelope};
+use soap_envelope::frame::{begin_body, begin_envelope, end_envelope};
 use soap_writer::nodes::{push_attribute, push_begin};
 use soap_document::profile::Name;
 use soap_writer::push_bytes;

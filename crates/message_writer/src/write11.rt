@@ -22,7 +22,7 @@ use crate::write::{push_acks, push_asks, push_body, push_pending_of};
 use rm_base::{Blob, Ident, Memory};
 use rm_elements::{SeqHeader, Tag as Messaging};
 use rm_message::{Body, FaultBody, FaultCode, Message};
-use soap_frame::{begin_body, begin_envelope11, end_envelope};
+use soap_envelope::frame::{begin_body, begin_envelope11, end_envelope};
 use soap_writer::nodes::{push_begin, push_close, push_leaf, push_number};
 use soap_writer::push_bytes;
 use std::alloc::Global;

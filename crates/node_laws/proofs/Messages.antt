@@ -24,7 +24,7 @@ use Rattle.rm_message.specs.declared.message.Message.{Message}
 use Rattle.rm_sides.specs.declared.source.phase.OutPhase.{OutPhase}
 use Rattle.rm_sides.specs.declared.source.phase.OutPhase.TheVariants as out
 use Rattle.soap_lex.specs.Facts.{equal}
-use Rattle.soap_frame.specs.Framed.{sorted_scope}
+use Rattle.soap_envelope.specs.Frame.Framed.{sorted_scope}
 use Rattle.soap_document.specs.Profile.Payload.{IsClosedContent}
 use Rattle.soap_envelope.specs.Soap.{soap_space}
 use Rattle.soap_document.specs.Profile.Tree.{Element}

@@ -1,7 +1,7 @@
 //! Laws of what the records of a node keep, and of what it says, each the contract of a function that does nothing but
 //! to bring in the laws that it stands on.
 ghost use Rattle.std.specs.Prelude.{◌≡◌};
-ghost use Rattle.soap_frame.specs.Framed.{sorted_scope};
+ghost use Rattle.soap_envelope.specs.Frame.Framed.{sorted_scope};
 ghost use Rattle.soap_envelope.specs.Soap.{soap_space};
 ghost use Rattle.rm_protocol.specs.Messages.{written_scope};
 ghost use Rattle.node_laws.specs.Keeps.{EachCallKeeps, EachIsByTheRules, EachIsReadBack, PollsByTheRules};

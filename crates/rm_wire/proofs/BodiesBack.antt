@@ -8,7 +8,7 @@ use Rattle.rm_base.specs.declared.message.Payload.{Payload}
 use Rattle.soap_lex.specs.Facts.{differ, equal, same}
 use Rattle.soap_document.specs.Profile.Tree.{Element, Parts, none, child, name_of, children_of}
 use Rattle.soap_document.specs.declared.profile.name.Expanded.{Expanded}
-use Rattle.soap_frame.specs.Framed.{sorted_scope}
+use Rattle.soap_envelope.specs.Frame.Framed.{sorted_scope}
 use Rattle.soap_envelope.specs.Soap.{is_soap11}
 use Rattle.soap_writer.specs.Nodes.Node.{node_tree}
 use Rattle.soap_values.specs.Children.{name_in, has_name}

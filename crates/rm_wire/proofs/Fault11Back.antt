@@ -10,7 +10,7 @@ use Rattle.soap_lex.specs.Characters.{IsName}
 use Rattle.soap_document.specs.Profile.Tree.{Element, element, parts_of}
 use Rattle.soap_document.specs.declared.profile.name.Expanded.{Expanded}
 use Rattle.soap_envelope.specs.Soap.{soap11_space}
-use Rattle.soap_frame.specs.Framed.{sorted_scope}
+use Rattle.soap_envelope.specs.Frame.Framed.{sorted_scope}
 use Rattle.soap_writer.specs.Frame.{addressing_space, messaging_space, connection_space}
 use Rattle.soap_writer.specs.Plain.{is_plain_name, name_from}
 use Rattle.soap_writer.specs.Writable.{IsNameWritable}

@@ -10,7 +10,7 @@ use Rattle.soap_document.specs.Profile.Tree.{Element, element, Parts, child, dec
 use Rattle.soap_document.specs.Profile.Tree.{without_declarations}
 use Rattle.soap_document.specs.declared.profile.name.Expanded.{Expanded}
 use Rattle.soap_document.specs.declared.profile.tree.Attr.{Attr}
-use Rattle.soap_frame.specs.Framed.{sorted_scope}
+use Rattle.soap_envelope.specs.Frame.Framed.{sorted_scope}
 use Rattle.soap_writer.specs.Nodes.Node.{Nodes, nothing, more, leaf, full, node_tree, nodes_tree}
 use Rattle.soap_values.specs.Children.{name_in, has_name, text_among}
 use Rattle.soap_values.specs.QNames.{within, qname_in}

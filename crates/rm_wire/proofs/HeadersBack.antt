@@ -11,7 +11,7 @@ use Rattle.soap_document.specs.Profile.Tree.{Element}
 use Rattle.soap_document.specs.declared.profile.name.Expanded.{Expanded}
 use Rattle.soap_writer.specs.Frame.{addressing_space}
 use Rattle.soap_writer.specs.Writable.{IsNameWritable}
-use Rattle.soap_frame.specs.Framed.{sorted_scope}
+use Rattle.soap_envelope.specs.Frame.Framed.{sorted_scope}
 use Rattle.soap_envelope.specs.Soap.{is_soap11}
 use Rattle.soap_writer.specs.Nodes.Node.{Node, node_tree}
 use Rattle.soap_values.specs.Children.{name_in, value_among}

@@ -8,7 +8,7 @@ use Rattle.soap_envelope.specs.Soap.{soap11_space, is_soap11}
 use Rattle.soap_document.specs.Profile.Tree.{Element, none, child}
 use Rattle.soap_document.specs.declared.profile.name.Expanded.{Expanded}
 use Rattle.soap_envelope.specs.Envelope.{Envelope, IsEnvelope}
-use Rattle.soap_frame.specs.Framed.{framed_envelope, sorted_scope}
+use Rattle.soap_envelope.specs.Frame.Framed.{framed_envelope, sorted_scope}
 use Rattle.soap_writer.specs.Nodes.Node.{node_tree}
 use Rattle.wsa_headers.specs.Addressing.{addressing_in}
 use Rattle.wsa_headers.specs.Writable.{addressing_blocks}

@@ -16,7 +16,7 @@ use Rattle.soap_lex.specs.NameBytes.{IsNameByte, name_bytes}
 use Rattle.soap_lex.specs.Scalars.{all_scalar, name_char-scalar, name_each}
 use Rattle.soap_document.specs.Profile.Namespaces.{split, xml_space, bound}
 use Rattle.soap_document.specs.declared.profile.name.Expanded.{Expanded}
-use Rattle.soap_frame.specs.Framed.{sorted_scope}
+use Rattle.soap_envelope.specs.Frame.Framed.{sorted_scope}
 use Rattle.soap_writer.specs.Nodes.Node.{note_bindings}
 use Rattle.soap_values.specs.QNames.{qname_in}
 use Rattle.soap_values.specs.Values.{trimmed_start, trimmed_end, trimmed}

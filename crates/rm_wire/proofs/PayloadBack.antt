@@ -8,7 +8,7 @@ use Rattle.soap_envelope.specs.Soap.{is_soap11}
 use Rattle.soap_document.specs.Profile.Tree.{Element, Parts, children_of}
 use Rattle.soap_envelope.specs.Envelope.{Envelope}
 use Rattle.soap_writer.specs.Frame.{addressing_space}
-use Rattle.soap_frame.specs.Tagged.{tagged_envelope}
+use Rattle.soap_envelope.specs.Frame.Tagged.{tagged_envelope}
 use Rattle.wsa_headers.specs.Addressing.{first_of}
 use Rattle.wsa_headers.specs.Writable.{addressing_blocks}
 use Rattle.rm_elements.specs.declared.header.SeqHeader.{SeqHeader}

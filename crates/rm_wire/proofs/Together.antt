@@ -13,7 +13,7 @@ use Rattle.soap_envelope.specs.Envelope.{Envelope, IsEnvelope}
 use Rattle.soap_envelope.specs.Soap.{soap_space, is_soap11}
 use Rattle.soap_writer.specs.Frame.{addressing_space}
 use Rattle.soap_writer.specs.Plain.{chars_from}
-use Rattle.soap_frame.specs.Framed.{framed_envelope, MayBeSoap}
+use Rattle.soap_envelope.specs.Frame.Framed.{framed_envelope, MayBeSoap}
 use Rattle.soap_writer.specs.Nodes.Node.{Nodes, more, leaf, node_tree, nodes_tree}
 use Rattle.soap_values.specs.Outcome.{◌>>=◌}
 use Rattle.wsa_headers.specs.Addressing.{uri_header, is_missing, properties_in, read_or_bad, read_unless}

@@ -4,8 +4,8 @@ ghost use Rattle.std.specs.Prelude.{◌≡◌, ◌≢◌, ◌≤◌, ℕ, List, 
 ghost use Rattle.rm_base.specs.Limits.{envelope_bytes};
 ghost use Rattle.rm_base.specs.declared.message.Binding.{Binding as Bound};
 ghost use Rattle.soap_document.specs.Profile.Tree.{Parts};
-ghost use Rattle.soap_frame.specs.Framed.{MayBeSoap, sorted_scope};
-ghost use Rattle.soap_frame.specs.Tagged.{tagged_envelope};
+ghost use Rattle.soap_envelope.specs.Frame.Framed.{MayBeSoap, sorted_scope};
+ghost use Rattle.soap_envelope.specs.Frame.Tagged.{tagged_envelope};
 ghost use Rattle.soap_envelope.specs.Soap.{soap_space, soap11_space, is_soap11};
 ghost use Rattle.soap_writer.specs.Nodes.Node.{node_tree};
 ghost use Rattle.wsa_headers.specs.Addressing.{first_of};

@@ -25,7 +25,7 @@ use Rattle.soap_lex.specs.Tests.{is_nil}
 use Rattle.soap_envelope.specs.Scope.{Rises}
 use Rattle.soap_envelope.specs.Soap.{soap_space}
 use Rattle.soap_document.specs.Profile.Namespaces.{bound, may_bind}
-use Rattle.soap_frame.specs.BodyTag.{AreApart}
+use Rattle.soap_envelope.specs.Frame.BodyTag.{AreApart}
 use Rattle.soap_writer.specs.Stripped.Resolved.{IsBinding, AreInForce}
 use Rattle.soap11_gate.specs.Lift.{numbered_prefix, IsFirstFree}
 

@@ -18,10 +18,11 @@ use Rattle.soap_envelope.specs.Soap.{soap_space, soap11_space, is_soap11}
 use Rattle.soap_document.specs.Profile.Namespaces.{bound, or_none, resolve_parts, tag_of, xmlns_space}
 use Rattle.soap_document.specs.Profile.Payload.{depth as nested}
 use Rattle.soap_document.specs.Profile.Tree.{Element, Parts}
-use Rattle.soap_frame.specs.BodyTag.{declaring_name, declaration, AreApart, MayBeDeclared, body_name, body_bindings}
-use Rattle.soap_frame.specs.Covers.{Covers}
-use Rattle.soap_frame.specs.Framed.{Block, IsBlock, MayBeSoap, bytes_of, trees_of}
-use Rattle.soap_frame.specs.Tagged.{tagged_text, tagged_envelope}
+use Rattle.soap_envelope.specs.Frame.BodyTag.{declaring_name, declaration, AreApart, MayBeDeclared, body_name}
+use Rattle.soap_envelope.specs.Frame.BodyTag.{body_bindings}
+use Rattle.soap_envelope.specs.Frame.Covers.{Covers}
+use Rattle.soap_envelope.specs.Frame.Framed.{Block, IsBlock, MayBeSoap, bytes_of, trees_of}
+use Rattle.soap_envelope.specs.Frame.Tagged.{tagged_text, tagged_envelope}
 use Rattle.soap_writer.specs.Frame.{frame_scope, addressing_space}
 use Rattle.soap_writer.specs.Plain.{name_from, chars_from}
 use Rattle.soap_writer.specs.ReadBack.{ContentReadsAs, IsAttributeWritten}

@@ -3,7 +3,7 @@ use Rattle.std.proofs.Common.{◌≡◌, ◌≢◌, ℕ, List, [], ◌∷◌, �
 use Rattle.soap_document.specs.declared.attribute.WrittenAttribute.{WrittenAttribute}
 use Rattle.soap_writer.specs.ElementText.{quoted}
 use Rattle.soap_writer.specs.ReadBack.{written_attributes}
-use Rattle.soap_frame.specs.BodyTag.{declaring_name}
+use Rattle.soap_envelope.specs.Frame.BodyTag.{declaring_name}
 
 pub declaring_some : (prefix : List ℕ) → prefix ≢ [] → declaring_name prefix ≡ codes "xmlns:" ++ prefix
 declaring_some [] some = absurd (some refl)

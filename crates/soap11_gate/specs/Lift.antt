@@ -5,8 +5,8 @@ use Rattle.rm_base.specs.declared.message.Binding.{Binding}
 use Rattle.rm_base.specs.declared.message.Payload.{Payload}
 use Rattle.soap_envelope.specs.Soap.{soap_space}
 use Rattle.soap_document.specs.Profile.Namespaces.{bound}
-use Rattle.soap_frame.specs.BodyTag.{declaration, body_name, body_bindings}
-use Rattle.soap_frame.specs.Tagged.{tagged_text}
+use Rattle.soap_envelope.specs.Frame.BodyTag.{declaration, body_name, body_bindings}
+use Rattle.soap_envelope.specs.Frame.Tagged.{tagged_text}
 use Rattle.rm_message.specs.declared.message.Body.{Body}
 use Rattle.rm_message.specs.declared.message.Body.TheVariants as body
 use Rattle.rm_message.specs.declared.message.Message.{Message}

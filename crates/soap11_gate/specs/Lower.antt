@@ -1,7 +1,7 @@
 -- A message of SOAP 1.2 as SOAP 1.1 says it.
 use Rattle.std.specs.Prelude.{◌≡◌, ℕ, List, [], Option, None}
 use Rattle.soap_envelope.specs.Soap.{soap_space, soap11_space}
-use Rattle.soap_frame.specs.Framed.{sorted_scope}
+use Rattle.soap_envelope.specs.Frame.Framed.{sorted_scope}
 use Rattle.rm_message.specs.declared.message.Body.{Body}
 use Rattle.rm_message.specs.declared.message.Body.TheVariants as body
 use Rattle.rm_message.specs.declared.message.Message.{Message}

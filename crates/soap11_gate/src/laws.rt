@@ -6,7 +6,7 @@ ghost use Rattle.rm_base.specs.declared.message.Payload.{Payload as Held};
 ghost use Rattle.soap_envelope.specs.Scope.{IsScope};
 ghost use Rattle.soap_envelope.specs.Soap.{soap_space};
 ghost use Rattle.soap_document.specs.Profile.Tree.{Element as Tree};
-ghost use Rattle.soap_frame.specs.BodyTag.{body_bindings};
+ghost use Rattle.soap_envelope.specs.Frame.BodyTag.{body_bindings};
 ghost use Rattle.soap_writer.specs.Frame.{frame_scope};
 ghost use Rattle.soap_writer.specs.Nodes.Node.{node_text};
 ghost use Rattle.rm_message.specs.declared.message.Body.TheVariants as body;
@@ -36,7 +36,7 @@ use read_laws::laws::{
 use rm_wire::laws::{
     a_payload_is_read_behind_the_blocks, what_is_lowered_is_read, what_is_written_is_read,
 };
-use soap_frame::laws::{
+use soap_envelope::frame::laws::{
     content_is_read_where_more_is_bound, declaring_body_is_body, tagged_frame_is_an_envelope,
 };
 

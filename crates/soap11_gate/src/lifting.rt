@@ -3,7 +3,7 @@ ghost use Rattle.std.specs.Prelude.{◌≡◌, ◌++◌, ◌∷◌, [], IfOk, On
 ghost use Rattle.soap_document.specs.Grammar.{start_tag, end_tag};
 ghost use Rattle.soap_envelope.specs.Soap.{soap_space};
 ghost use Rattle.soap_writer.specs.ReadBack.{written_attributes};
-ghost use Rattle.soap_frame.specs.BodyTag.{
+ghost use Rattle.soap_envelope.specs.Frame.BodyTag.{
   declaring_name,
   declaration,
   body_name,
@@ -17,7 +17,7 @@ use message_writer::{encode, push_header};
 use rm_base::{Binding, Bindings, Blob, Memory, Payload};
 use rm_message::{Body, Message};
 use soap_envelope::SOAP_SPACE;
-use soap_frame::begin_envelope;
+use soap_envelope::frame::begin_envelope;
 use soap_writer::{push_bytes, push_quoted};
 use std::alloc::Global;
 

@@ -4,3 +4,4 @@ pub mod Placed
 pub mod Scopes
 pub mod Unique
 pub mod Parted
+pub mod FrameLemmas

@@ -4,3 +4,4 @@ pub mod Scope
 pub mod Soap
 pub mod Steps
 pub mod View
+pub mod Frame

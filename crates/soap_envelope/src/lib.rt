@@ -11,3 +11,5 @@ mod scope;
 
 pub use envelope::Envelope;
 pub use read::{SOAP_SPACE, SOAP11_SPACE, envelope_of, is_soap11, read_envelope, read_envelope_in};
+
+pub mod frame;

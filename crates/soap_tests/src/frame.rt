@@ -1,7 +1,7 @@
 //! The frame of an envelope, written, and read back with what stands in it.
 use crate::envelope;
 use rm_base::{Blob, Memory};
-use soap_frame::{begin_body, begin_envelope, end_envelope};
+use soap_envelope::frame::{begin_body, begin_envelope, end_envelope};
 use std::alloc::Global;
 
 // The frame with these blocks and this between Body's tags.

@@ -1,6 +1,6 @@
 use Rattle.std.proofs.Common.{◌≡◌, ◌++◌, drop, map}
 use Rattle.soap_writer.specs.ReadBack.{written_attributes}
-use Rattle.soap_frame.specs.BodyTag.{declaration}
+use Rattle.soap_envelope.specs.Frame.BodyTag.{declaration}
 use Rattle.soap11_gate.proofs.lifting.push_bindings.Given as goal
 
 -- those so far, and those of what is left

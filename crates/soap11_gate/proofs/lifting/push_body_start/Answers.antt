@@ -1,7 +1,7 @@
 use Rattle.std.proofs.Common.{map}
 use Rattle.rm_base.specs.declared.message.Binding.{Binding}
 use Rattle.soap_envelope.specs.Soap.{soap_space}
-use Rattle.soap_frame.specs.BodyTag.{declaration}
+use Rattle.soap_envelope.specs.Frame.BodyTag.{declaration}
 use Rattle.soap11_gate.proofs.Tags.{start_by}
 use Rattle.soap11_gate.proofs.lifting.push_body_start.Goals as goal
 

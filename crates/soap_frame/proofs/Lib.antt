@@ -1,6 +1,0 @@
-pub mod Moved
-pub mod Covered
-pub mod Closed
-pub mod BodyTag
-pub mod Framing
-pub mod Tagged

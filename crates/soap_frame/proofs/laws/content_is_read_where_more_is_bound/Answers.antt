@@ -1,5 +1,0 @@
-use Rattle.soap_frame.proofs.Closed.{moved_alike}
-use Rattle.soap_frame.proofs.laws.content_is_read_where_more_is_bound.Goals as goal
-
-pub returns : goal.returns
-returns c = moved_alike

@@ -1,9 +1,0 @@
-use Rattle.soap_frame.proofs.Tagged.{tagged}
-use Rattle.soap_frame.proofs.laws.tagged_frame_is_an_envelope.Goals as goal
-
-pub returns : goal.returns
-returns c = tagged (record {
-  attributes = c.attributes_are_read_back.ensures;
-  nothing = c.content_is_read_back.ensures.nothing;
-  more = c.content_is_read_back.ensures.more;
-})
