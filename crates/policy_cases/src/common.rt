@@ -2,7 +2,7 @@
 use rm_base::Memory;
 use soap_document::profile::{Name, Shared};
 use std::alloc::Global;
-use wsp_alternatives::{Alternatives, Term, Terms, WspError, intersect};
+use rm_policy::alternatives::{Alternatives, Term, Terms, WspError, intersect};
 
 // So many alternatives of a term each, in order.
 fn alternatives(alloc: Global, count: u16) -> Result<Alternatives, Memory> {

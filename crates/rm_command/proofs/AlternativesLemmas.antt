@@ -4,10 +4,10 @@ use Rattle.std.proofs.Common.{sym, ap, ◌∙◌, append-nil, arith}
 use Rattle.std.specs.Prelude.{IfSome}
 use Rattle.rm_base.specs.Outside.{AppendsFront}
 use Rattle.soap_document.specs.declared.profile.error.EnvelopeError.TheVariants as documents
-use Rattle.wsp_alternatives.specs.Finds.{FindsNormal, FindsCommon}
-use Rattle.wsp_alternatives.specs.declared.error.WspError.{WspError}
-use Rattle.wsp_alternatives.specs.declared.error.WspError.TheVariants as errors
-use Rattle.wsp_alternatives.specs.declared.term.Term.{Term}
+use Rattle.rm_policy.specs.Alternatives.Finds.{FindsNormal, FindsCommon}
+use Rattle.rm_policy.specs.declared.alternatives.error.WspError.{WspError}
+use Rattle.rm_policy.specs.declared.alternatives.error.WspError.TheVariants as errors
+use Rattle.rm_policy.specs.declared.alternatives.term.Term.{Term}
 use Rattle.rm_command.specs.Alternatives.{Finding, EndsFinding, HasFound, IsTextFound, MayCome}
 use Rattle.rm_command.specs.Alternatives.{RefusesFinding, fault_for}
 use Rattle.rm_command.specs.Edge.{Edge}

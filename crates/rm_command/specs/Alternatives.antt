@@ -3,11 +3,11 @@ use Rattle.std.specs.Prelude.{◌≡◌, ℕ, List, Option, None, Some, Result, 
 use Rattle.rm_base.specs.Limits as limits
 use Rattle.rm_report.specs.Exits as exits
 use Rattle.soap_document.specs.declared.profile.error.EnvelopeError.TheVariants as documents
-use Rattle.wsp_alternatives.specs.Finds.{FindsNormal, FindsCommon}
-use Rattle.wsp_alternatives.specs.Texts.{normal_text}
-use Rattle.wsp_alternatives.specs.declared.error.WspError.{WspError}
-use Rattle.wsp_alternatives.specs.declared.error.WspError.TheVariants as errors
-use Rattle.wsp_alternatives.specs.declared.term.Term.{Term}
+use Rattle.rm_policy.specs.Alternatives.Finds.{FindsNormal, FindsCommon}
+use Rattle.rm_policy.specs.Alternatives.Texts.{normal_text}
+use Rattle.rm_policy.specs.declared.alternatives.error.WspError.{WspError}
+use Rattle.rm_policy.specs.declared.alternatives.error.WspError.TheVariants as errors
+use Rattle.rm_policy.specs.declared.alternatives.term.Term.{Term}
 use Rattle.rm_command.specs.declared.end.End.{End}
 use Rattle.rm_command.specs.declared.end.End.TheVariants.{Refused}
 use Rattle.rm_command.specs.declared.end.Fault.{Fault}

@@ -11,8 +11,8 @@ ghost use Rattle.rm_command.specs.Alternatives.{
 ghost use Rattle.rm_command.specs.Edge.{edge_of, side_of, KeepsEdge, KeepsOutput};
 ghost use Rattle.rm_command.specs.Filter.{EndsWriting};
 ghost use Rattle.rm_command.specs.declared.end.Fault.{Fault as AFault};
-ghost use Rattle.wsp_alternatives.specs.Finds.{FindsCommon, FindsNormal};
-ghost use Rattle.wsp_alternatives.specs.Texts.{normal_text};
+ghost use Rattle.rm_policy.specs.Alternatives.Finds.{FindsCommon, FindsNormal};
+ghost use Rattle.rm_policy.specs.Alternatives.Texts.{normal_text};
 
 use crate::end::{End, Fault, refuse};
 use crate::filter::{NoText, read_input};
@@ -20,7 +20,7 @@ use rm_base::limits::ENVELOPE_BYTES;
 use rm_base::{Memory, Sink, SinkError, Source};
 use soap_document::profile::EnvelopeError;
 use std::alloc::Global;
-use wsp_alternatives::{Alternatives, WspError, find_common, find_normal, pieces_of, write_pieces};
+use rm_policy::alternatives::{Alternatives, WspError, find_common, find_normal, pieces_of, write_pieces};
 
 /// Reads a policy, and prints its normal form.
 pub fn normal<S: Source, K: Sink>(alloc: Global, input: &mut S, out: &mut K) -> End

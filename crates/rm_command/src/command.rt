@@ -23,7 +23,7 @@ use rm_report::exits::USAGE_LINE;
 use rm_script::laws::no_bad_line;
 use rm_soak::number_in;
 use std::alloc::Global;
-use wsp_alternatives::laws::what_is_found_is_not_refused;
+use rm_policy::alternatives::laws::what_is_found_is_not_refused;
 
 /// Does what the words say, those after the program's name, and answers the exit status.
 pub fn run<S: Source, K: Sink, M: CrashDisk, W: Wire>(

@@ -1,3 +1,4 @@
 pub mod Back
 pub mod Items
 pub mod Readings
+pub mod AlternativesLemmas

@@ -4,3 +4,4 @@ pub mod Reading
 pub mod Refusal
 pub mod Texts
 pub mod Words
+pub mod Alternatives

@@ -16,3 +16,5 @@ pub use error::PolicyError;
 pub use read::{find_security, read_assertion, read_assertion_element, read_form, read_optional};
 pub use word::{ASSERTION, OLDER_POLICY, POLICY};
 pub use write::write_assertion;
+
+pub mod alternatives;

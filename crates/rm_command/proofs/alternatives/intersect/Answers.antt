@@ -1,5 +1,5 @@
 use Rattle.std.proofs.Common.{Err, ap, refl}
-use Rattle.wsp_alternatives.specs.Texts.{normal_text}
+use Rattle.rm_policy.specs.Alternatives.Texts.{normal_text}
 use Rattle.rm_command.specs.RunLemmas.{writing_ends}
 use Rattle.rm_command.proofs.alternatives.intersect.Goals as goal
 

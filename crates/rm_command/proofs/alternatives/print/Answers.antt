@@ -1,4 +1,4 @@
-use Rattle.wsp_alternatives.specs.Texts.{normal_text}
+use Rattle.rm_policy.specs.Alternatives.Texts.{normal_text}
 use Rattle.rm_command.proofs.AlternativesLemmas.{begun_not}
 use Rattle.rm_command.proofs.alternatives.print.Goals as goal
 

@@ -4,7 +4,7 @@ use Rattle.rm_command.proofs.CheckLemmas.{check_status, replay_status}
 use Rattle.rm_command.proofs.PolicyLemmas.{policy_status}
 use Rattle.rm_command.proofs.SoakLemmas.{soak_status}
 use Rattle.rm_command.proofs.StatusLemmas.{status_by, usage_by}
-use Rattle.wsp_alternatives.specs.Finds.{FindsCommon, FindsNormal}
+use Rattle.rm_policy.specs.Alternatives.Finds.{FindsCommon, FindsNormal}
 use Rattle.rm_command.proofs.command.run.Goals as goal
 
 pub returns-clause-status : goal.returns-clause-status

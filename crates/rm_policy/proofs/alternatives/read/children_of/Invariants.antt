@@ -1,0 +1,11 @@
+use Rattle.std.proofs.Common.{◌≡◌, ◌++◌, drop}
+use Rattle.soap_document.specs.Profile.Tree.{children_of}
+use Rattle.soap_document.specs.Profile.View.{parts_view}
+use Rattle.soap_values.specs.Steps.{lent_trees}
+use Rattle.rm_policy.proofs.alternatives.read.children_of.Given as goal
+
+-- those so far, and those of what is left
+abbrev pub invariant-loop-item : goal.invariant-loop-item
+invariant-loop-item l =
+    lent_trees l.children.items ++ children_of (parts_view (drop l.item-index l.items))
+    ≡ children_of (parts_view l.items)

@@ -1,5 +1,0 @@
-use Rattle.std.proofs.Common.{◌≡◌, ◌++◌, drop}
-use Rattle.wsp_alternatives.proofs.common.copy_terms.Given as goal
-
-abbrev pub invariant-loop-term : goal.invariant-loop-term
-invariant-loop-term l = l.copies ++ drop l.term-index l.terms ≡ l.terms

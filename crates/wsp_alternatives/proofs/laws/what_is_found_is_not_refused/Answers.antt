@@ -1,8 +1,0 @@
-use Rattle.wsp_alternatives.proofs.FindLemmas.{normal_stands, common_stands}
-use Rattle.wsp_alternatives.proofs.laws.what_is_found_is_not_refused.Goals as goal
-
-pub returns-clause-normal : goal.returns-clause-normal
-returns-clause-normal c = λ bytes lists error f g. normal_stands c.one_tree.ensures bytes lists error f g
-
-pub returns-clause-common : goal.returns-clause-common
-returns-clause-common c = λ bytes lists error f g. common_stands c.one_tree.ensures bytes lists error f g

@@ -1,9 +1,0 @@
-use Rattle.std.proofs.Common.{◌≡◌, true, take, map}
-use Rattle.wsp_alternatives.specs.Listed.{ListedSoFar}
-use Rattle.wsp_alternatives.specs.Masks.{has_mask, picked_list}
-use Rattle.wsp_alternatives.proofs.normal.ordered.Given as goal
-
-abbrev pub invariant-loop-mask : goal.invariant-loop-mask
-invariant-loop-mask l =
-    ListedSoFar l.terms (λ m. has_mask (take l.mask-index l.masks) m ≡ true) (map (picked_list 0 l.terms)
-    l.ordered.items)

@@ -1,6 +1,0 @@
-use Rattle.std.proofs.Common.{◌≡◌, drop}
-use Rattle.wsp_alternatives.specs.Sets.{list_cmp}
-use Rattle.wsp_alternatives.proofs.order.compare_lists.Given as goal
-
-abbrev pub invariant-loop-i : goal.invariant-loop-i
-invariant-loop-i l = list_cmp (drop l.i l.one) (drop l.i l.other) ≡ list_cmp l.one l.other

@@ -1,9 +1,0 @@
-use Rattle.std.proofs.Common.{◌≡◌, ◌++◌, drop}
-use Rattle.wsp_alternatives.specs.Pieces.{pieces_text}
-use Rattle.wsp_alternatives.specs.Texts.{more_terms}
-use Rattle.wsp_alternatives.proofs.pieces.push_terms.Given as goal
-
-abbrev pub invariant-loop-term : goal.invariant-loop-term
-invariant-loop-term l =
-    pieces_text l.pieces.items ++ more_terms (drop l.term-index l.rest)
-    ≡ pieces_text l.initial.pieces.items ++ more_terms l.rest

@@ -1,8 +1,0 @@
-use Rattle.std.proofs.Common.{◌≡◌, drop}
-use Rattle.soap_document.specs.Profile.View.{parts_view}
-use Rattle.wsp_alternatives.specs.Reading.{is_childless}
-use Rattle.wsp_alternatives.proofs.tree.is_childless.Given as goal
-
--- those that are left decide
-abbrev pub invariant-loop-item : goal.invariant-loop-item
-invariant-loop-item l = is_childless (parts_view (drop l.item-index l.items)) ≡ is_childless (parts_view l.items)

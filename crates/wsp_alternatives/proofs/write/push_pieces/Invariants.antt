@@ -1,6 +1,0 @@
-use Rattle.std.proofs.Common.{◌≡◌, ◌++◌, drop}
-use Rattle.wsp_alternatives.specs.Pieces.{pieces_text}
-use Rattle.wsp_alternatives.proofs.write.push_pieces.Given as goal
-
-abbrev pub invariant-loop-piece : goal.invariant-loop-piece
-invariant-loop-piece l = l.out ++ pieces_text (drop l.piece-index l.pieces) ≡ l.initial.out ++ pieces_text l.pieces
