@@ -1,7 +1,7 @@
-//! Tests of `rm_elements`. What a test does stands in a helper that answers a plain value, since a test with many steps
+//! Tests of `rm_message::elements`. What a test does stands in a helper that answers a plain value, since a test with many steps
 //! is slow to prove.
 use rm_base::{Blob, Lapse, Memory};
-use rm_elements::{
+use rm_message::elements::{
     ElementError, Header, Lifecycle, deadline, read_duration, read_header, read_lifecycle,
     write_header, write_lifecycle,
 };

@@ -6,13 +6,13 @@ use Rattle.hex.specs.Hex.{encode_lower, upper_digits}
 use Rattle.rm_sides.specs.declared.ranges.range.Range.{Range}
 use Rattle.rm_base.specs.declared.message.Binding.{Binding}
 use Rattle.rm_base.specs.declared.message.Payload.{Payload}
-use Rattle.rm_elements.specs.declared.header.AckBlock.{AckBlock}
-use Rattle.rm_elements.specs.declared.header.AckKind.{AckKind}
-use Rattle.rm_elements.specs.declared.header.AckKind.TheVariants.{Ranges, Nothing, Nack}
-use Rattle.rm_elements.specs.declared.header.SeqHeader.{SeqHeader}
-use Rattle.rm_elements.specs.declared.lifecycle.Finish.{Finish}
-use Rattle.rm_elements.specs.declared.lifecycle.Lifecycle.{Lifecycle}
-use Rattle.rm_elements.specs.declared.lifecycle.Lifecycle.TheVariants as life
+use Rattle.rm_message.specs.declared.elements.header.AckBlock.{AckBlock}
+use Rattle.rm_message.specs.declared.elements.header.AckKind.{AckKind}
+use Rattle.rm_message.specs.declared.elements.header.AckKind.TheVariants.{Ranges, Nothing, Nack}
+use Rattle.rm_message.specs.declared.elements.header.SeqHeader.{SeqHeader}
+use Rattle.rm_message.specs.declared.elements.lifecycle.Finish.{Finish}
+use Rattle.rm_message.specs.declared.elements.lifecycle.Lifecycle.{Lifecycle}
+use Rattle.rm_message.specs.declared.elements.lifecycle.Lifecycle.TheVariants as life
 use Rattle.rm_message.specs.declared.message.Body.{Body}
 use Rattle.rm_message.specs.declared.message.Body.TheVariants as body
 use Rattle.rm_message.specs.declared.message.FaultCode.{FaultCode}

@@ -5,7 +5,7 @@ ghost use Rattle.message_lines.specs.Lines.{finish_lines, lifecycle_lines, code_
 
 use crate::values::{push_escaped, push_text};
 use rm_base::{Binding, Blob, Memory, Payload, push_decimal, push_hex};
-use rm_elements::{Finish, Lifecycle};
+use rm_message::elements::{Finish, Lifecycle};
 use rm_message::{Body, FaultCode};
 
 /// What a message is, by its body.

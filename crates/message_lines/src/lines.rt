@@ -7,7 +7,7 @@ ghost use Rattle.message_lines.specs.Lines.{addressing_lines, header_lines, mess
 use crate::body::{push_body, word};
 use crate::values::{bool_word, push_escaped, push_final, push_kind, push_text};
 use rm_base::{Blob, Ident, Memory, Uri, push_decimal};
-use rm_elements::{AckBlock, SeqHeader};
+use rm_message::elements::{AckBlock, SeqHeader};
 use rm_message::Message;
 use std::alloc::Global;
 

@@ -6,7 +6,7 @@ ghost use Rattle.message_lines.specs.Lines.{range_text, ranges_text, numbers_tex
 
 use rm_sides::ranges::Range;
 use rm_base::{Blob, Memory, push_decimal};
-use rm_elements::AckKind;
+use rm_message::elements::AckKind;
 
 /// Appends bytes, each as it is or as `%` and two digits.
 pub(crate) fn push_escaped(out: &mut Blob, bytes: &[u8]) -> Result<(), Memory>

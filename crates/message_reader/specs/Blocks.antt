@@ -11,8 +11,8 @@ use Rattle.soap_values.specs.Values.{is_true, trimmed}
 use Rattle.soap_envelope.specs.Soap.{is_soap11}
 use Rattle.wsa_headers.specs.Addressing.{is_marked}
 use Rattle.wsa_headers.specs.Endpoint.{wsa}
-use Rattle.rm_elements.specs.Headers.{header_name}
-use Rattle.rm_elements.specs.Outcome.{rm}
+use Rattle.rm_message.specs.Elements.Headers.{header_name}
+use Rattle.rm_message.specs.Elements.Outcome.{rm}
 
 -- whether a block is the header of this name: a reference parameter is none, whatever it is called
 abbrev pub is_block : Expanded → Element → Bool

@@ -10,10 +10,10 @@ use Rattle.soap_document.specs.declared.profile.name.Expanded.{Expanded}
 use Rattle.soap_values.specs.Children.{name_in, has_name}
 use Rattle.soap_values.specs.Outcome.{◌>>=◌, single}
 use Rattle.wsa_headers.specs.Addressing.{first_of}
-use Rattle.rm_elements.specs.Lifecycle.{lifecycle_of}
-use Rattle.rm_elements.specs.Outcome.{rm, mc}
-use Rattle.rm_elements.specs.declared.error.ElementError.{ElementError}
-use Rattle.rm_elements.specs.declared.lifecycle.Lifecycle.{Lifecycle}
+use Rattle.rm_message.specs.Elements.Lifecycle.{lifecycle_of}
+use Rattle.rm_message.specs.Elements.Outcome.{rm, mc}
+use Rattle.rm_message.specs.declared.elements.error.ElementError.{ElementError}
+use Rattle.rm_message.specs.declared.elements.lifecycle.Lifecycle.{Lifecycle}
 use Rattle.rm_message.specs.Actions.{create_sequence, create_sequence_response, close_sequence}
 use Rattle.rm_message.specs.Actions.{close_sequence_response, terminate_sequence, terminate_sequence_response}
 use Rattle.rm_message.specs.Actions.{ack_requested, sequence_acknowledgement, wsrm_fault, make_connection}

@@ -10,7 +10,7 @@ use Rattle.soap_values.specs.Outcome.{◌>>=◌}
 use Rattle.soap_values.specs.QNames.{within, qname_in}
 use Rattle.soap_values.specs.Values.{trimmed_text}
 use Rattle.soap_writer.specs.Frame.{addressing_space, messaging_space, connection_space}
-use Rattle.rm_elements.specs.Outcome.{rm}
+use Rattle.rm_message.specs.Elements.Outcome.{rm}
 use Rattle.rm_message.specs.declared.message.FaultBody.{FaultBody}
 use Rattle.rm_message.specs.declared.message.FaultCode.{FaultCode}
 use Rattle.rm_message.specs.declared.message.FaultCode.TheVariants.{VersionMismatch, MustUnderstand, Sender, Receiver}

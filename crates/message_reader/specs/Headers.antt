@@ -10,13 +10,13 @@ use Rattle.soap_values.specs.Outcome.{◌>>=◌, optional, single, each, if_pres
 use Rattle.soap_values.specs.QNames.{within, qname_in}
 use Rattle.soap_values.specs.Values.{trimmed_text}
 use Rattle.soap_envelope.specs.Soap.{is_soap11}
-use Rattle.rm_elements.specs.Headers.{header_of}
-use Rattle.rm_elements.specs.Outcome.{rm, mc}
-use Rattle.rm_elements.specs.declared.error.ElementError.{ElementError}
-use Rattle.rm_elements.specs.declared.error.ElementError.TheVariants.{Rollover}
-use Rattle.rm_elements.specs.declared.header.AckBlock.{AckBlock}
-use Rattle.rm_elements.specs.declared.header.Header.{Header}
-use Rattle.rm_elements.specs.declared.header.Header.TheVariants.{Sequence, Ack, Ask, Pending}
+use Rattle.rm_message.specs.Elements.Headers.{header_of}
+use Rattle.rm_message.specs.Elements.Outcome.{rm, mc}
+use Rattle.rm_message.specs.declared.elements.error.ElementError.{ElementError}
+use Rattle.rm_message.specs.declared.elements.error.ElementError.TheVariants.{Rollover}
+use Rattle.rm_message.specs.declared.elements.header.AckBlock.{AckBlock}
+use Rattle.rm_message.specs.declared.elements.header.Header.{Header}
+use Rattle.rm_message.specs.declared.elements.header.Header.TheVariants.{Sequence, Ack, Ask, Pending}
 use Rattle.message_reader.specs.Blocks.{blocks, sequence_fault_name}
 use Rattle.message_reader.specs.Faults.{spaced, stripped_in}
 use Rattle.message_reader.specs.declared.fault11.SequenceFault.{SequenceFault}

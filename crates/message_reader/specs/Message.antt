@@ -13,8 +13,8 @@ use Rattle.wsa_headers.specs.Endpoint.{wsa}
 use Rattle.wsa_headers.specs.declared.addressing.Addressing.{Addressing}
 use Rattle.wsa_headers.specs.declared.error.AddressingError.{AddressingError}
 use Rattle.wsa_headers.specs.declared.error.AddressingError.TheVariants as errors
-use Rattle.rm_elements.specs.declared.header.AckBlock.{AckBlock}
-use Rattle.rm_elements.specs.declared.header.SeqHeader.{SeqHeader}
+use Rattle.rm_message.specs.declared.elements.header.AckBlock.{AckBlock}
+use Rattle.rm_message.specs.declared.elements.header.SeqHeader.{SeqHeader}
 use Rattle.rm_message.specs.Actions.{create_sequence}
 use Rattle.rm_message.specs.declared.message.Body.{Body}
 use Rattle.rm_message.specs.declared.message.Message.{Message}

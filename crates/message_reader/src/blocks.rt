@@ -24,7 +24,7 @@ ghost use Rattle.message_reader.specs.Blocks.{
 };
 
 use rm_base::{Items, Memory};
-use rm_elements::{MESSAGING, header_name};
+use rm_message::elements::{MESSAGING, header_name};
 use rm_message::Names;
 use soap_envelope::is_soap11;
 use soap_document::profile::{Element, Name};

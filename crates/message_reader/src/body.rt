@@ -5,7 +5,7 @@ ghost use Rattle.soap_document.specs.Profile.View.{element_view, parts_view};
 ghost use Rattle.soap_values.specs.Children.{name_in};
 ghost use Rattle.soap_values.specs.Outcome.{Gives, single};
 ghost use Rattle.wsa_headers.specs.Addressing.{first_of};
-ghost use Rattle.rm_elements.specs.Lifecycle.{lifecycle_of};
+ghost use Rattle.rm_message.specs.Elements.Lifecycle.{lifecycle_of};
 ghost use Rattle.message_reader.specs.Bodies.{
   if_fault,
   fault_at,
@@ -24,7 +24,7 @@ ghost use Rattle.message_reader.specs.Bodies.{
 use crate::fault::read_fault;
 use crate::fault11::{SequenceFault, read_fault11};
 use rm_base::{Binding, Memory, Payload};
-use rm_elements::{CONNECTION, ElementError, MESSAGING, read_lifecycle};
+use rm_message::elements::{CONNECTION, ElementError, MESSAGING, read_lifecycle};
 use rm_message::{Body, FaultBody, actions};
 use soap_envelope::is_soap11;
 use soap_document::profile::{Element, Item, Parts};

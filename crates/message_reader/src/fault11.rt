@@ -22,7 +22,7 @@ ghost use Rattle.message_reader.specs.Headers.{fault_code_name, sequence_fault_o
 use crate::blocks::find_block;
 use crate::fault::{Codes, blob_or_empty, find_first, if_readable, read_stripped};
 use rm_base::{Binding, Blob, Memory};
-use rm_elements::{CONNECTION, MESSAGING};
+use rm_message::elements::{CONNECTION, MESSAGING};
 use rm_message::{FaultBody, FaultCode};
 use soap_envelope::is_soap11;
 use soap_document::profile::{Element, Elements, Name};

@@ -21,7 +21,7 @@ ghost use Rattle.message_reader.specs.Headers.{
 
 use crate::blocks::{find_block, find_blocks};
 use rm_base::{Binding, Ident, Items, Memory};
-use rm_elements::{AckBlock, CONNECTION, ElementError, Header, MESSAGING, SeqHeader, read_header};
+use rm_message::elements::{AckBlock, CONNECTION, ElementError, Header, MESSAGING, SeqHeader, read_header};
 use rm_message::{Acks, Idents, Names};
 use soap_envelope::is_soap11;
 use soap_document::profile::{Element, Name};

@@ -26,7 +26,7 @@ use crate::headers::{
     Numbered, read_acks, read_asks, read_numbered, read_pending, read_told_names,
 };
 use rm_base::{Binding, Memory, Payload};
-use rm_elements::{MESSAGING, SeqHeader};
+use rm_message::elements::{MESSAGING, SeqHeader};
 use rm_message::{Acks, Body, Idents, Message, Names, actions};
 use soap_envelope::Envelope;
 use soap_document::profile::{Element, Parts};

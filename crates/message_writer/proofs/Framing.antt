@@ -24,14 +24,14 @@ use Rattle.soap_writer.specs.Nodes.Node.{Node, Nodes, nothing, words, more, node
 use Rattle.wsa_headers.specs.Texts.{addressing_nodes}
 use Rattle.wsa_headers.specs.Writable.{IsAddressingWritable}
 use Rattle.wsa_headers.specs.declared.addressing.Addressing.{Addressing}
-use Rattle.rm_elements.specs.Texts.{header_node, sequence_node, ack_node, ask_node, pending_node}
-use Rattle.rm_elements.specs.Texts.{lifecycle_node}
-use Rattle.rm_elements.specs.Writable.{IsHeaderWritable, IsSequenceWritable, IsAckWritable, IsLifecycleWritable}
-use Rattle.rm_elements.specs.declared.header.AckBlock.{AckBlock}
-use Rattle.rm_elements.specs.declared.header.Header.{Header}
-use Rattle.rm_elements.specs.declared.header.Header.TheVariants as headers
-use Rattle.rm_elements.specs.declared.header.SeqHeader.{SeqHeader}
-use Rattle.rm_elements.specs.declared.lifecycle.Lifecycle.{Lifecycle}
+use Rattle.rm_message.specs.Elements.Texts.{header_node, sequence_node, ack_node, ask_node, pending_node}
+use Rattle.rm_message.specs.Elements.Texts.{lifecycle_node}
+use Rattle.rm_message.specs.Elements.Writable.{IsHeaderWritable, IsSequenceWritable, IsAckWritable, IsLifecycleWritable}
+use Rattle.rm_message.specs.declared.elements.header.AckBlock.{AckBlock}
+use Rattle.rm_message.specs.declared.elements.header.Header.{Header}
+use Rattle.rm_message.specs.declared.elements.header.Header.TheVariants as headers
+use Rattle.rm_message.specs.declared.elements.header.SeqHeader.{SeqHeader}
+use Rattle.rm_message.specs.declared.elements.lifecycle.Lifecycle.{Lifecycle}
 use Rattle.rm_message.specs.declared.message.Body.{Body}
 use Rattle.rm_message.specs.declared.message.Body.TheVariants as body
 use Rattle.rm_message.specs.declared.message.Message.{Message}

@@ -9,9 +9,9 @@ use Rattle.soap_writer.specs.Plain.{chars_from}
 use Rattle.soap_writer.specs.ReadBack.{ContentReadsAs}
 use Rattle.soap_envelope.specs.Frame.Framed.{MayBeSoap, framed_envelope}
 use Rattle.soap_writer.specs.Nodes.Node.{node_tree}
-use Rattle.rm_elements.specs.Writable.{IsSequenceWritable}
-use Rattle.rm_elements.specs.declared.header.Header.TheVariants as headers
-use Rattle.rm_elements.specs.declared.header.SeqHeader.{SeqHeader}
+use Rattle.rm_message.specs.Elements.Writable.{IsSequenceWritable}
+use Rattle.rm_message.specs.declared.elements.header.Header.TheVariants as headers
+use Rattle.rm_message.specs.declared.elements.header.SeqHeader.{SeqHeader}
 use Rattle.rm_message.specs.declared.message.Body.{Body}
 use Rattle.rm_message.specs.declared.message.Body.TheVariants as body
 use Rattle.rm_message.specs.declared.message.Message.{Message}

@@ -13,8 +13,8 @@ use Rattle.soap_writer.specs.Plain.{chars_from}
 use Rattle.soap_writer.specs.Writable.{IsNameWritable, IsTextWritable}
 use Rattle.soap_writer.specs.Nodes.Good.{IsTagGood, IsGood, AreGood}
 use Rattle.soap_writer.specs.Nodes.Node.{tag_name, declared, bare}
-use Rattle.rm_elements.specs.Texts.{r, sequence_node}
-use Rattle.rm_elements.specs.declared.header.SeqHeader.{SeqHeader}
+use Rattle.rm_message.specs.Elements.Texts.{r, sequence_node}
+use Rattle.rm_message.specs.declared.elements.header.SeqHeader.{SeqHeader}
 use Rattle.rm_message.specs.declared.message.FaultBody.{FaultBody}
 use Rattle.rm_message.specs.declared.message.FaultCode.{FaultCode}
 use Rattle.rm_message.specs.declared.message.FaultCode.TheVariants.{VersionMismatch, MustUnderstand}

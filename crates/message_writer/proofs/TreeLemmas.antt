@@ -4,9 +4,9 @@ use Rattle.soap_document.specs.Profile.Items.{Item, a_child, decls_among, attrs_
 use Rattle.soap_document.specs.Profile.Tree.{element, Parts, none, text, child}
 use Rattle.soap_document.specs.declared.profile.name.Expanded.{Expanded}
 use Rattle.soap_writer.specs.Nodes.Node.{Node, Nodes, nothing, each_node, node_tree, nodes_tree}
-use Rattle.rm_elements.specs.Texts.{range_node, nack_node, kind_nodes}
-use Rattle.rm_elements.specs.declared.header.AckKind.{AckKind}
-use Rattle.rm_elements.specs.declared.header.AckKind.TheVariants.{Ranges, Nothing, Nack}
+use Rattle.rm_message.specs.Elements.Texts.{range_node, nack_node, kind_nodes}
+use Rattle.rm_message.specs.declared.elements.header.AckKind.{AckKind}
+use Rattle.rm_message.specs.declared.elements.header.AckKind.TheVariants.{Ranges, Nothing, Nack}
 
 -- parts are nothing but parts
 decls_none : (ps : Parts) → decls_among (listed ps) ≡ []

@@ -9,8 +9,8 @@ use Rattle.soap_document.specs.declared.profile.name.Expanded.{Expanded}
 use Rattle.soap_writer.specs.Frame.{addressing_space, messaging_space, connection_space}
 use Rattle.soap_writer.specs.Nodes.Node.{leaf, node_tree}
 use Rattle.wsa_headers.specs.declared.addressing.Addressing.{Addressing}
-use Rattle.rm_elements.specs.Texts.{r, identifier_node, ack_node}
-use Rattle.rm_elements.specs.declared.header.AckBlock.{AckBlock}
+use Rattle.rm_message.specs.Elements.Texts.{r, identifier_node, ack_node}
+use Rattle.rm_message.specs.declared.elements.header.AckBlock.{AckBlock}
 use Rattle.message_writer.specs.declared.table.Vocabulary.{Vocabulary}
 use Rattle.message_writer.specs.declared.table.Vocabulary.TheVariants.{OfSoap, OfAddressing, OfMessaging, OfConnection}
 use Rattle.rm_message.specs.declared.message.Body.TheVariants as body

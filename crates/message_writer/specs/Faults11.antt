@@ -7,7 +7,7 @@ use Rattle.soap_document.specs.declared.profile.name.Expanded.{Expanded}
 use Rattle.soap_writer.specs.Frame.{addressing_space, messaging_space, connection_space}
 use Rattle.soap_writer.specs.Nodes.Node.{Tag as NodeTag, bare, Node, Nodes, full, nothing, words, more}
 use Rattle.wsa_headers.specs.Texts.{params_nodes}
-use Rattle.rm_elements.specs.Texts.{r}
+use Rattle.rm_message.specs.Elements.Texts.{r}
 use Rattle.soap_values.specs.Children.{name_in}
 use Rattle.message_writer.specs.declared.tag.Tag.TheVariants as tags
 use Rattle.message_writer.specs.Text.{tag_of, qname, qname_notes, words_of}

@@ -1,7 +1,7 @@
 -- What the writers of header blocks append, piece by piece.
 use Rattle.std.specs.Prelude.{ℕ, List, ◌++◌, codes, map, option_map}
 use Rattle.std.specs.Option.{option_to_list}
-use Rattle.rm_elements.specs.Texts.{sequence_node, ack_node, ask_node, pending_node}
+use Rattle.rm_message.specs.Elements.Texts.{sequence_node, ack_node, ask_node, pending_node}
 use Rattle.rm_message.specs.declared.message.Message.{Message}
 use Rattle.message_writer.specs.Text.{not_understood_node, blocks_text}
 use Rattle.message_writer.specs.Text11.{sequence_marked, ahead_of}

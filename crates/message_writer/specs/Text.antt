@@ -15,7 +15,7 @@ use Rattle.soap_envelope.specs.Frame.Framed.{framed_text}
 use Rattle.soap_writer.specs.Nodes.Node.{Tag as NodeTag, framed, Note, plain, of_xml, declared, Node, Nodes, full, void}
 use Rattle.soap_writer.specs.Nodes.Node.{nothing, words, more, leaf, node_text}
 use Rattle.wsa_headers.specs.Texts.{addressing_nodes, params_nodes}
-use Rattle.rm_elements.specs.Texts.{sequence_node, ack_node, ask_node, pending_node, lifecycle_node}
+use Rattle.rm_message.specs.Elements.Texts.{sequence_node, ack_node, ask_node, pending_node, lifecycle_node}
 use Rattle.message_writer.specs.declared.tag.Tag.{Tag}
 use Rattle.message_writer.specs.declared.tag.Tag.TheVariants as tags
 use Rattle.rm_message.specs.declared.message.Body.{Body}

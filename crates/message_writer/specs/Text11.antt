@@ -8,8 +8,8 @@ use Rattle.soap_envelope.specs.Frame.Framed.{framed_text}
 use Rattle.soap_writer.specs.Frame.{of_soap}
 use Rattle.soap_writer.specs.Nodes.Node.{prefixed, Node, full, nothing, more, leaf, node_text, node_tree}
 use Rattle.wsa_headers.specs.Texts.{addressing_nodes}
-use Rattle.rm_elements.specs.Texts.{identifier_node, r, ack_node, ask_node, pending_node}
-use Rattle.rm_elements.specs.declared.header.SeqHeader.{SeqHeader}
+use Rattle.rm_message.specs.Elements.Texts.{identifier_node, r, ack_node, ask_node, pending_node}
+use Rattle.rm_message.specs.declared.elements.header.SeqHeader.{SeqHeader}
 use Rattle.rm_message.specs.declared.message.Body.{Body}
 use Rattle.rm_message.specs.declared.message.Body.TheVariants as body
 use Rattle.rm_message.specs.declared.message.Message.{Message}

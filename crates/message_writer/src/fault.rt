@@ -17,7 +17,7 @@ ghost use Rattle.message_writer.specs.Faults.{
 use crate::table::{Vocabulary, code, inner, subcode, whose as whose_of};
 use crate::trees::{ack_tree, ident_tree, max_tree};
 use rm_base::{Blob, Ident, Memory, copy_optional_uri, uri_of};
-use rm_elements::AckBlock;
+use rm_message::elements::AckBlock;
 use rm_message::{Acks, Body, FaultBody, FaultKind, Idents, Message, Names, Refusal};
 use soap_document::profile::{Elements, Name, Shared};
 use std::alloc::Global;

@@ -2,7 +2,7 @@
 //! 1.2, section 4. Each writer of a piece appends it, up to a want of memory.
 ghost use Rattle.std.specs.Prelude.{◌≡◌, ◌++◌, [], OnOk, codes};
 ghost use Rattle.soap_writer.specs.Nodes.Node.{bare, full, words, node_text, nodes_text};
-ghost use Rattle.rm_elements.specs.Texts.{r};
+ghost use Rattle.rm_message.specs.Elements.Texts.{r};
 ghost use Rattle.message_writer.specs.Text.{qname as qname_text, qname_notes, blocks_text};
 ghost use Rattle.message_writer.specs.Faults11.{
   code11,
@@ -21,7 +21,7 @@ ghost use Rattle.message_writer.specs.Faults11.{
 use crate::fault_text::{push_elements, push_words};
 use crate::qname::{push_qname_declaration, qname};
 use rm_base::{Blob, Memory};
-use rm_elements::MESSAGING;
+use rm_message::elements::MESSAGING;
 use rm_message::{FaultBody, FaultCode};
 use soap_writer::nodes::{push_begin, push_close, push_start};
 use soap_document::profile::{Elements, Name};

@@ -17,7 +17,7 @@ ghost use Rattle.message_writer.specs.Text11.{
   message11_text,
 };
 
-use rm_elements::{header_is_good, lifecycle_is_good};
+use rm_message::elements::{header_is_good, lifecycle_is_good};
 use soap_envelope::frame::laws::{closed_content_is_read_alike, frame_is_an_envelope};
 use soap_writer::nodes::laws::node_is_read_back;
 use soap_writer::laws::content_is_read_back;

@@ -1,5 +1,5 @@
 //! Whole messages to bytes, and the faults that refusals are answered with. It stands on the types of messages,
-//! `rm_message`, on header blocks and body elements, `rm_elements`, on addressing headers, `wsa_headers`, and on the
+//! `rm_message`, on header blocks and body elements, `rm_message::elements`, on addressing headers, `wsa_headers`, and on the
 //! frame of an envelope, `soap_envelope::frame`. The layers above may use the contracts and the laws, by `specs/`.
 #![tactic(auto)]
 

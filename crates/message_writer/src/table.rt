@@ -4,7 +4,7 @@ ghost use Rattle.std.specs.Prelude.{◌≡◌, option_map};
 ghost use Rattle.message_writer.specs.Faults.{table, fault_action, space_of};
 ghost use Rattle.rm_base.specs.Text.{IsText};
 
-use rm_elements::{CONNECTION, MESSAGING};
+use rm_message::elements::{CONNECTION, MESSAGING};
 use rm_message::{FaultCode, FaultKind, ROLLOVER, actions};
 use soap_envelope::SOAP_SPACE;
 use wsa_headers::ADDRESSING;

@@ -11,14 +11,14 @@ ghost use Rattle.soap_document.specs.Profile.View.{
   parts_view,
 };
 ghost use Rattle.soap_writer.specs.Nodes.Node.{leaf, void, nothing, node_tree, nodes_tree, each_node};
-ghost use Rattle.rm_elements.specs.Outcome.{rm};
-ghost use Rattle.rm_elements.specs.Texts.{r, range_node, nack_node, kind_nodes, final_nodes};
+ghost use Rattle.rm_message.specs.Elements.Outcome.{rm};
+ghost use Rattle.rm_message.specs.Elements.Texts.{r, range_node, nack_node, kind_nodes, final_nodes};
 ghost use Rattle.message_writer.specs.Faults.{ident_element, max_element, ack_element};
 
 use rm_sides::ranges::Range;
 use itoa::Buffer;
 use rm_base::{Bytes, Ident, Memory};
-use rm_elements::{AckBlock, AckKind, MESSAGING};
+use rm_message::elements::{AckBlock, AckKind, MESSAGING};
 use soap_document::profile::{Attr, Element, Item, Name, Shared};
 use std::alloc::Global;
 

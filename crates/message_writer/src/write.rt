@@ -3,7 +3,7 @@ ghost use Rattle.std.specs.Prelude.{◌≡◌, ◌++◌, IfOk, OnOk, map, option
 ghost use Rattle.std.specs.Option.{option_to_list};
 ghost use Rattle.soap_envelope.specs.Soap.{soap_space};
 ghost use Rattle.soap_writer.specs.Nodes.Node.{node_text};
-ghost use Rattle.rm_elements.specs.Texts.{sequence_node, ack_node, ask_node, pending_node};
+ghost use Rattle.rm_message.specs.Elements.Texts.{sequence_node, ack_node, ask_node, pending_node};
 ghost use Rattle.message_writer.specs.Text.{
   not_understood_node,
   header_blocks,
@@ -18,7 +18,7 @@ use crate::fault_text::push_fault;
 use crate::qname::{push_qname_declaration, qname};
 use crate::tag::Tag;
 use rm_base::{Blob, Ident, Memory};
-use rm_elements::{
+use rm_message::elements::{
     AckBlock, SeqHeader, push_ack, push_ask, push_pending, push_sequence, write_lifecycle,
 };
 use rm_message::{Body, FaultBody, Message};

@@ -3,7 +3,7 @@ ghost use Rattle.std.specs.Prelude.{◌≡◌, ◌++◌, IfOk, OnOk, option_map,
 ghost use Rattle.std.specs.Option.{option_to_list};
 ghost use Rattle.soap_writer.specs.Frame.{of_soap};
 ghost use Rattle.soap_writer.specs.Nodes.Node.{leaf, node_text, note_text, prefixed};
-ghost use Rattle.rm_elements.specs.Texts.{identifier_node, r};
+ghost use Rattle.rm_message.specs.Elements.Texts.{identifier_node, r};
 ghost use Rattle.message_writer.specs.Steps.{other11_text};
 ghost use Rattle.message_writer.specs.Text.{blocks_text};
 ghost use Rattle.message_writer.specs.Text11.{
@@ -20,7 +20,7 @@ ghost use Rattle.message_writer.specs.Faults11.{fault11_node};
 use crate::fault11_text::{push_ahead, push_fault11};
 use crate::write::{push_acks, push_asks, push_body, push_pending_of};
 use rm_base::{Blob, Ident, Memory};
-use rm_elements::{SeqHeader, Tag as Messaging};
+use rm_message::elements::{SeqHeader, Tag as Messaging};
 use rm_message::{Body, FaultBody, FaultCode, Message};
 use soap_envelope::frame::{begin_body, begin_envelope11, end_envelope};
 use soap_writer::nodes::{push_begin, push_close, push_leaf, push_number};

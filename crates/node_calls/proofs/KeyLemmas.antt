@@ -13,14 +13,14 @@ use Rattle.sequence_table.specs.Fits.{is_outgoing_side, fits, all_fit}
 use Rattle.rm_protocol.specs.Calls.{message_at}
 use Rattle.rm_protocol.specs.Messages.{create_request, data_at, data_by, finish_request, offer_by, request_at}
 use Rattle.rm_protocol.specs.Messages.{request_by}
-use Rattle.rm_elements.specs.declared.lifecycle.Lifecycle.TheVariants as life
+use Rattle.rm_message.specs.declared.elements.lifecycle.Lifecycle.TheVariants as life
 use Rattle.rm_sides.specs.declared.source.phase.OutPhase.{OutPhase}
 use Rattle.rm_sides.specs.declared.source.phase.OutPhase.TheVariants as out
 use Rattle.wsa_headers.specs.declared.endpoint.Epr.{Epr}
 use Rattle.node_laws.specs.Records.{BeginsWithMade}
 use Rattle.rm_base.specs.declared.message.Behaviour.{Behaviour}
 use Rattle.rm_base.specs.declared.lapse.Lapse.{Lapse}
-use Rattle.rm_elements.specs.declared.lifecycle.Offer.{Offer}
+use Rattle.rm_message.specs.declared.elements.lifecycle.Offer.{Offer}
 use Rattle.rm_message.specs.declared.message.Message.{Message}
 use Rattle.record_batch.specs.declared.record.OwnOffer.{OwnOffer}
 use Rattle.record_batch.specs.declared.record.Via.{Via}

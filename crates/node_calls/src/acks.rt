@@ -13,7 +13,7 @@ use node_messages::{ack_message, is_anonymous};
 use node_tables::Maker;
 use receive_replies::{acks_to, block_of};
 use rm_base::Memory;
-use rm_elements::AckBlock;
+use rm_message::elements::AckBlock;
 use rm_message::{Acks, Message};
 use sequence_table::issue;
 use std::alloc::Global;

@@ -21,7 +21,7 @@ use node_laws::answers::{Answer, Cause, refused};
 use node_tables::laws::an_incoming_sequence_is_as_recorded;
 use node_tables::{Maker, Tables};
 use rm_base::{Memory, Numbers};
-use rm_elements::{AckBlock, AckKind};
+use rm_message::elements::{AckBlock, AckKind};
 use rm_message::Message;
 use sequence_table::issue;
 use std::alloc::Global;

@@ -5,7 +5,7 @@ ghost use Rattle.rm_base.specs.Limits.{most_sequences};
 ghost use Rattle.node_laws.specs.Sizes.Room.{HasRoom};
 ghost use Rattle.node_laws.specs.Sizes.Typed.{IsTyped};
 ghost use Rattle.record_batch.specs.Fact.{fact_of};
-ghost use Rattle.rm_elements.specs.declared.lifecycle.Lifecycle.TheVariants as life;
+ghost use Rattle.rm_message.specs.declared.elements.lifecycle.Lifecycle.TheVariants as life;
 ghost use Rattle.rm_protocol.specs.Calls.{create as create_of, offer_of, wanted as wanted_of};
 ghost use Rattle.rm_protocol.specs.Messages.{finish_request, via_of as via_for};
 ghost use Rattle.rm_protocol.specs.Terms.{Terms};

@@ -15,7 +15,7 @@ use Rattle.jiff_core.proofs.DateLemmas.{days_from_civil-next_year}
 use Rattle.jiff_core.proofs.SignedLemmas.{signed_arith}
 use Rattle.jiff_span.specs.Months.{add_months, shifted_year, IsShiftable}
 use Rattle.jiff_span.proofs.MonthLemmas.{add_months-zero, add_months-forward}
-use Rattle.rm_elements.specs.Deadline.{IsZero, IsDateOf, sum_of, EndsAt}
+use Rattle.rm_message.specs.Elements.Deadline.{IsZero, IsDateOf, sum_of, EndsAt}
 use Rattle.rm_base.specs.declared.lapse.Lapse.{Lapse}
 use Rattle.node_laws.specs.OwnTerms.{EndsAsTold}
 

@@ -10,7 +10,7 @@ use Rattle.jiff_core.proofs.SignedLemmas.{signed_arith}
 use Rattle.jiff_core.specs.Calendar.{IsYear}
 use Rattle.jiff_span.specs.Months.{add_months, shifted_year}
 use Rattle.jiff_span.proofs.MonthLemmas.{add_months-zero, add_months-forward}
-use Rattle.rm_elements.specs.Deadline.{IsDateOf, sum_of, EndsAt, IsDeadline}
+use Rattle.rm_message.specs.Elements.Deadline.{IsDateOf, sum_of, EndsAt, IsDeadline}
 use Rattle.rm_base.specs.declared.lapse.Lapse.{Lapse}
 
 -- ---- it ends later

@@ -11,12 +11,12 @@ use Rattle.std.proofs.lemmas.Option.{slice_get_within}
 use Rattle.rm_base.specs.Message.{max_number}
 use Rattle.rm_base.specs.Numbered.{numbered}
 use Rattle.rm_base.specs.Text.{IsText}
-use Rattle.rm_elements.specs.Writable.{IsNumber, IsAckWritable, IsLifecycleWritable, IsFinishWritable}
-use Rattle.rm_elements.specs.Writable.{IsOfferWritable}
-use Rattle.rm_elements.specs.declared.header.AckBlock.{AckBlock}
-use Rattle.rm_elements.specs.declared.lifecycle.Finish.{Finish}
-use Rattle.rm_elements.specs.declared.lifecycle.Lifecycle.{Lifecycle}
-use Rattle.rm_elements.specs.declared.lifecycle.Lifecycle.TheVariants as life
+use Rattle.rm_message.specs.Elements.Writable.{IsNumber, IsAckWritable, IsLifecycleWritable, IsFinishWritable}
+use Rattle.rm_message.specs.Elements.Writable.{IsOfferWritable}
+use Rattle.rm_message.specs.declared.elements.header.AckBlock.{AckBlock}
+use Rattle.rm_message.specs.declared.elements.lifecycle.Finish.{Finish}
+use Rattle.rm_message.specs.declared.elements.lifecycle.Lifecycle.{Lifecycle}
+use Rattle.rm_message.specs.declared.elements.lifecycle.Lifecycle.TheVariants as life
 use Rattle.rm_message.specs.Actions.{create_sequence, create_sequence_response, close_sequence}
 use Rattle.rm_message.specs.Actions.{close_sequence_response, terminate_sequence, terminate_sequence_response}
 use Rattle.rm_message.specs.Actions.{ack_requested, make_connection, sequence_acknowledgement}

@@ -4,7 +4,7 @@ use Rattle.std.proofs.Common.{Option, Some, None}
 use Rattle.std.specs.Prelude.{nat_le, IfSome, Result}
 use Rattle.std.proofs.lemmas.Bool.{leb-true}
 use Rattle.std.proofs.lemmas.Bool.Decides.{nat_tests}
-use Rattle.rm_elements.specs.declared.header.AckBlock.{AckBlock}
+use Rattle.rm_message.specs.declared.elements.header.AckBlock.{AckBlock}
 use Rattle.rm_base.specs.declared.lapse.Lapse.{Lapse}
 use Rattle.rm_message.specs.declared.message.Message.{Message}
 use Rattle.rm_message.specs.declared.refusal.FaultKind.{FaultKind}

@@ -1,6 +1,6 @@
 -- The messages that wait, and what a MakeConnection takes out of them, keep the rules of what is written.
 use Rattle.std.proofs.Common.{Bool}
-use Rattle.rm_elements.specs.Writable.{IsAckWritable}
+use Rattle.rm_message.specs.Elements.Writable.{IsAckWritable}
 use Rattle.rm_message.specs.declared.message.Message.{Message}
 use Rattle.rm_protocol.specs.PollLemmas.{IsOfReplies, blocks-all, fetched-all, outs-all, polled_after-all}
 use Rattle.rm_protocol.specs.Polls.{blocks_back, with_pending}

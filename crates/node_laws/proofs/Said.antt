@@ -5,11 +5,11 @@ use Rattle.std.specs.Prelude.{codes, IfSome}
 use Rattle.std.specs.List.{AllByRecursion}
 use Rattle.rm_base.specs.NumberSet.{has_number}
 use Rattle.rm_base.specs.Text.{IsText}
-use Rattle.rm_elements.specs.Writable.{IsAckWritable, IsSequenceWritable, IsLifecycleWritable}
-use Rattle.rm_elements.specs.declared.header.AckBlock.{AckBlock}
-use Rattle.rm_elements.specs.declared.header.SeqHeader.{SeqHeader}
-use Rattle.rm_elements.specs.declared.lifecycle.Lifecycle.{Lifecycle}
-use Rattle.rm_elements.specs.declared.lifecycle.Lifecycle.TheVariants as life
+use Rattle.rm_message.specs.Elements.Writable.{IsAckWritable, IsSequenceWritable, IsLifecycleWritable}
+use Rattle.rm_message.specs.declared.elements.header.AckBlock.{AckBlock}
+use Rattle.rm_message.specs.declared.elements.header.SeqHeader.{SeqHeader}
+use Rattle.rm_message.specs.declared.elements.lifecycle.Lifecycle.{Lifecycle}
+use Rattle.rm_message.specs.declared.elements.lifecycle.Lifecycle.TheVariants as life
 use Rattle.rm_message.specs.declared.message.Body.{Body}
 use Rattle.rm_message.specs.declared.message.Body.TheVariants as body
 use Rattle.rm_message.specs.declared.message.Message.{Message}

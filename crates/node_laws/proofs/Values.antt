@@ -11,7 +11,7 @@ use Rattle.rm_base.specs.Message.{max_number}
 use Rattle.rm_base.specs.NumberSet.{has_number}
 use Rattle.rm_base.specs.Text.{IsText}
 use Rattle.rm_base.specs.declared.message.Payload.{Payload}
-use Rattle.rm_elements.specs.Writable.{IsNumber, IsRange, IsKindWritable, IsAckWritable, IsLapseWritable}
+use Rattle.rm_message.specs.Elements.Writable.{IsNumber, IsRange, IsKindWritable, IsAckWritable, IsLapseWritable}
 use Rattle.soap_document.specs.Profile.Payload.{IsClosedContent}
 use Rattle.wsa_headers.specs.Writable.{IsEprWritable}
 use Rattle.wsa_headers.specs.declared.endpoint.Epr.{Epr}

@@ -2,8 +2,8 @@
 use Rattle.std.specs.Prelude.{◌≡◌, ℕ, ◌<◌, ◌≤◌, Bool, List, length, Option, None, Result, IsTrue, ◌↔◌}
 use Rattle.rm_base.specs.Limits as limits
 use Rattle.soap_document.specs.Profile.Payload.{IsClosedContent}
-use Rattle.rm_elements.specs.Deadline.{IsDeadline}
-use Rattle.rm_elements.specs.declared.header.AckBlock.{AckBlock}
+use Rattle.rm_message.specs.Elements.Deadline.{IsDeadline}
+use Rattle.rm_message.specs.declared.elements.header.AckBlock.{AckBlock}
 use Rattle.rm_base.specs.declared.lapse.Lapse.{Lapse}
 use Rattle.rm_message.specs.declared.message.Message.{Message}
 use Rattle.rm_message.specs.declared.refusal.Refusal.{Refusal}

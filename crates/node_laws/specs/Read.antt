@@ -2,7 +2,7 @@
 use Rattle.std.specs.Prelude.{None, IfSome, Result, Ok, Err}
 use Rattle.std.specs.List.{AllByRecursion}
 use Rattle.rm_base.specs.Text.{IsText}
-use Rattle.rm_elements.specs.Writable.{IsSequenceWritable, IsAckWritable, IsLapseWritable, IsLifecycleWritable}
+use Rattle.rm_message.specs.Elements.Writable.{IsSequenceWritable, IsAckWritable, IsLapseWritable, IsLifecycleWritable}
 use Rattle.rm_message.specs.declared.message.Body.{Body}
 use Rattle.rm_message.specs.declared.message.Body.TheVariants as body
 use Rattle.rm_message.specs.declared.message.Message.{Message}

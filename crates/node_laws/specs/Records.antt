@@ -5,7 +5,7 @@ use Rattle.rm_base.specs.Limits as limits
 use Rattle.rm_sides.specs.Ranges.Ranges.{IsCanonical}
 use Rattle.rm_base.specs.NumberSet.{has_number}
 use Rattle.rm_base.specs.Text.{IsText}
-use Rattle.rm_elements.specs.Writable.{IsLapseWritable}
+use Rattle.rm_message.specs.Elements.Writable.{IsLapseWritable}
 use Rattle.soap_document.specs.Profile.Payload.{IsClosedContent}
 use Rattle.wsa_headers.specs.Writable.{IsEprWritable}
 use Rattle.record_batch.specs.declared.record.PeerOffer.{PeerOffer}

@@ -56,7 +56,7 @@ pub fn own_terms_are_terms()
 }
 
 /// The calendar tells one moment for the end of a duration, or none, so that a node's own terms tell what `deadline`
-/// of `rm_elements` computes.
+/// of `rm_message::elements` computes.
 pub fn a_duration_ends_once()
     ensures { EndsOnce }
 {}

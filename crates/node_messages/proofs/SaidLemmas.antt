@@ -1,6 +1,6 @@
 -- An answer is its parts.
 use Rattle.std.proofs.Common.{◌≡◌, Bool, true, false, List, [], ◌∷◌, ◌++◌, cond, refl, ap, ◌∙◌}
-use Rattle.rm_elements.specs.declared.header.AckBlock.{AckBlock}
+use Rattle.rm_message.specs.declared.elements.header.AckBlock.{AckBlock}
 use Rattle.rm_message.specs.declared.message.Message.{Message}
 use Rattle.wsa_headers.specs.declared.endpoint.Epr.{Epr}
 use Rattle.std.specs.Option.{option_or}

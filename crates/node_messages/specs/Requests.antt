@@ -1,8 +1,8 @@
 -- A CreateSequence with what it offers: WS-ReliableMessaging 1.2, section 3.4.
 use Rattle.std.specs.Prelude.{ℕ, ◌<◌, ◌^◌, List, codes, Option, Some, None}
 use Rattle.rm_base.specs.declared.lapse.Lapse.{Lapse}
-use Rattle.rm_elements.specs.declared.lifecycle.Lifecycle.TheVariants as life
-use Rattle.rm_elements.specs.declared.lifecycle.Offer.{Offer}
+use Rattle.rm_message.specs.declared.elements.lifecycle.Lifecycle.TheVariants as life
+use Rattle.rm_message.specs.declared.elements.lifecycle.Offer.{Offer}
 use Rattle.rm_message.specs.declared.message.Message.{Message}
 use Rattle.record_batch.specs.declared.record.OwnOffer.{OwnOffer}
 use Rattle.record_batch.specs.declared.record.Via.{Via}

@@ -12,7 +12,7 @@ use crate::name::Name;
 use crate::plain::plain;
 use rm_sides::ranges::{Range, RangeSet};
 use rm_base::{Ident, Items, Memory};
-use rm_elements::{AckBlock, AckKind};
+use rm_message::elements::{AckBlock, AckKind};
 use rm_message::{Acks, Body, Idents, Message};
 use std::alloc::Global;
 use wsa_headers::Epr;

@@ -6,7 +6,7 @@ ghost use Rattle.node_messages.specs.Payloads.{payload_of};
 use crate::name::application_action;
 use crate::plain::plain;
 use rm_base::{Binding, Bindings, Blob, Ident, Memory, Payload};
-use rm_elements::{CONNECTION, MESSAGING, SeqHeader};
+use rm_message::elements::{CONNECTION, MESSAGING, SeqHeader};
 use rm_message::{Body, Message};
 use soap_envelope::SOAP_SPACE;
 use std::alloc::Global;

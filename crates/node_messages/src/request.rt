@@ -3,7 +3,7 @@ ghost use Rattle.std.specs.Prelude.{◌≡◌, ◌<◌, ◌^◌, List, IfOk, IfS
 ghost use Rattle.record_batch.specs.Fact.{Fact};
 ghost use Rattle.rm_base.specs.Text.{IsText};
 ghost use Rattle.rm_message.specs.Actions.{make_connection};
-ghost use Rattle.rm_elements.specs.declared.lifecycle.Lifecycle.TheVariants as life;
+ghost use Rattle.rm_message.specs.declared.elements.lifecycle.Lifecycle.TheVariants as life;
 ghost use Rattle.rm_protocol.specs.Messages.{last_number as last_number_of, request_of};
 ghost use Rattle.rm_protocol.specs.Polls.{make_message};
 ghost use Rattle.node_messages.specs.Homes.{IsHome};
@@ -16,7 +16,7 @@ use crate::name::Name;
 use crate::plain::plain;
 use record_batch::{OwnOffer, Via};
 use rm_base::{Ident, Lapse, Memory, Uri, uri_of};
-use rm_elements::{CreateSequence, Finish, Lifecycle, MakeConnection, Offer};
+use rm_message::elements::{CreateSequence, Finish, Lifecycle, MakeConnection, Offer};
 use rm_message::{Body, Message, actions};
 use sequence_table::issue;
 use std::alloc::Global;

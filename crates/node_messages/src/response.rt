@@ -1,7 +1,7 @@
 //! Responses: WS-ReliableMessaging 1.2, sections 3.4 to 3.6.
 ghost use Rattle.std.specs.Prelude.{◌≡◌, ◌<◌, ◌^◌, ◌∷◌, [], List, true, false, IfOk, None, Some};
 ghost use Rattle.record_batch.specs.Fact.{Fact};
-ghost use Rattle.rm_elements.specs.declared.lifecycle.Lifecycle.TheVariants as life;
+ghost use Rattle.rm_message.specs.declared.elements.lifecycle.Lifecycle.TheVariants as life;
 ghost use Rattle.rm_protocol.specs.Addresses.{reply_endpoint as reply_endpoint_of};
 ghost use Rattle.rm_protocol.specs.Messages.{response_of};
 ghost use Rattle.rm_protocol.specs.Said.{accept_by};
@@ -16,7 +16,7 @@ use crate::home::Home;
 use crate::name::Name;
 use crate::plain::plain;
 use rm_base::{Behaviour, Ident, Lapse, Memory, Uri, copy_optional_uri};
-use rm_elements::{AckBlock, CreateResponse, Lifecycle};
+use rm_message::elements::{AckBlock, CreateResponse, Lifecycle};
 use rm_message::{Acks, Body, Message};
 use sequence_table::issue;
 use std::alloc::Global;

@@ -13,7 +13,7 @@ use crate::acks::{ack_message, with_blocks};
 use crate::address::is_anonymous;
 use crate::response::one_block;
 use rm_base::Memory;
-use rm_elements::AckBlock;
+use rm_message::elements::AckBlock;
 use rm_message::{Acks, Message};
 use std::alloc::Global;
 use wsa_headers::Epr;

@@ -1,7 +1,7 @@
 //! Whether the records of a batch keep their limits.
 ghost use Rattle.std.specs.Prelude.{◌↔◌, IfOk, IfSome, IsTrue, map};
 ghost use Rattle.std.specs.List.{AllByRecursion};
-ghost use Rattle.rm_elements.specs.Writable.{IsLapseWritable};
+ghost use Rattle.rm_message.specs.Elements.Writable.{IsLapseWritable};
 ghost use Rattle.soap_document.specs.Profile.Payload.{IsClosedContent};
 ghost use Rattle.record_batch.specs.Fact.{fact_of};
 ghost use Rattle.record_batch.specs.Writable.{IsEndpointWritable, IsPeerOfferWritable, IsWritable};
@@ -11,7 +11,7 @@ ghost use Rattle.node_laws.specs.Records.{IsOfferKept, KeepsLimits};
 use crate::endpoints::is_endpoint_kept;
 use record_batch::{PeerOffer, Record};
 use rm_base::{Blob, Lapse, Memory};
-use rm_elements::duration::{MOST_MONTHS, MOST_MS};
+use rm_message::elements::duration::{MOST_MONTHS, MOST_MS};
 use soap_document::profile::check_payload;
 use std::alloc::Global;
 use wsa_headers::Epr;

@@ -3,7 +3,7 @@ ghost use Rattle.std.specs.Prelude.{◌≡◌, IfOk};
 
 use record_batch::copy_payload;
 use rm_base::{Memory, copy_optional_uri};
-use rm_elements::{
+use rm_message::elements::{
     CreateResponse, CreateSequence, Finish, Lifecycle, MakeConnection, Offer, SeqHeader, copy_block,
 };
 use rm_message::{Acks, Body, FaultBody, Idents, Message, Names};

@@ -17,7 +17,7 @@ use crate::copy::copy_message;
 use timers::pending::Pending;
 use node_messages::{is_anonymous, with_blocks};
 use rm_base::{Memory, Uri, copy_optional_uri};
-use rm_elements::{Lifecycle, copy_block};
+use rm_message::elements::{Lifecycle, copy_block};
 use rm_message::{Acks, Body, Message};
 use std::alloc::Global;
 

@@ -16,15 +16,15 @@ use Rattle.soap_writer.specs.Stripped.Resolved.{AreInForce, IsResolved}
 use Rattle.soap_values.specs.Children.{name_in, has_name}
 use Rattle.soap_values.specs.Outcome.{◌>>=◌, single}
 use Rattle.wsa_headers.specs.Addressing.{first_of}
-use Rattle.rm_elements.specs.Lifecycle.{body_name, body_as, lifecycle_of, create_in, response_in, finish_in}
-use Rattle.rm_elements.specs.Lifecycle.{make_in}
-use Rattle.rm_elements.specs.Headers.{identifier}
-use Rattle.rm_elements.specs.Outcome.{rm, mc, named}
-use Rattle.rm_elements.specs.declared.error.ElementError.{ElementError}
-use Rattle.rm_elements.specs.declared.lifecycle.Lifecycle.{Lifecycle}
-use Rattle.rm_elements.specs.declared.lifecycle.Lifecycle.TheVariants as life
-use Rattle.rm_elements.specs.declared.read.BodyName.{BodyName}
-use Rattle.rm_elements.specs.declared.read.BodyName.TheVariants as names
+use Rattle.rm_message.specs.Elements.Lifecycle.{body_name, body_as, lifecycle_of, create_in, response_in, finish_in}
+use Rattle.rm_message.specs.Elements.Lifecycle.{make_in}
+use Rattle.rm_message.specs.Elements.Headers.{identifier}
+use Rattle.rm_message.specs.Elements.Outcome.{rm, mc, named}
+use Rattle.rm_message.specs.declared.elements.error.ElementError.{ElementError}
+use Rattle.rm_message.specs.declared.elements.lifecycle.Lifecycle.{Lifecycle}
+use Rattle.rm_message.specs.declared.elements.lifecycle.Lifecycle.TheVariants as life
+use Rattle.rm_message.specs.declared.elements.read.BodyName.{BodyName}
+use Rattle.rm_message.specs.declared.elements.read.BodyName.TheVariants as names
 use Rattle.rm_message.specs.Actions.{create_sequence, create_sequence_response, close_sequence}
 use Rattle.rm_message.specs.Actions.{close_sequence_response, terminate_sequence, terminate_sequence_response}
 use Rattle.rm_message.specs.Actions.{make_connection}

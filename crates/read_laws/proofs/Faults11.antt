@@ -14,7 +14,7 @@ use Rattle.soap_values.specs.Children.{has_name, children_named}
 use Rattle.soap_values.specs.Outcome.{◌>>=◌, single, optional, if_present}
 use Rattle.soap_values.specs.QNames.{within, qname_in}
 use Rattle.soap_values.specs.Values.{trimmed_text}
-use Rattle.rm_elements.specs.Outcome.{rm}
+use Rattle.rm_message.specs.Elements.Outcome.{rm}
 use Rattle.message_writer.specs.Rules.{IsSubcodeWritable, IsDetailWritable, IsFaultWritable}
 use Rattle.message_reader.specs.Blocks.{blocks, is_block, sequence_fault_name}
 use Rattle.message_reader.specs.Faults.{first_named, spaced, stripped_in, or_empty, fault_with}

@@ -11,20 +11,20 @@ use Rattle.soap_values.specs.Children.{name_in, children_named, value_among}
 use Rattle.soap_values.specs.Outcome.{◌>>=◌, optional, single, each}
 use Rattle.soap_values.specs.Values.{trimmed_text, whole_number}
 use Rattle.rm_sides.specs.declared.ranges.range.Range.{Range}
-use Rattle.rm_elements.specs.Headers.{ident_of, identifier, counted, number_in, number_of, unless_zero}
-use Rattle.rm_elements.specs.Headers.{message_number}
-use Rattle.rm_elements.specs.Headers.{numbered_in, unless_rolled, bound_in, range_of, ack_of, ack_in}
-use Rattle.rm_elements.specs.Headers.{pending_in, header_name, header_as, header_of}
-use Rattle.rm_elements.specs.Outcome.{rm, named}
-use Rattle.rm_elements.specs.Writable.{IsNumber, IsRange, IsAckWritable, IsHeaderWritable}
-use Rattle.rm_elements.specs.declared.error.ElementError.TheVariants.{Rollover}
-use Rattle.rm_elements.specs.declared.header.AckBlock.{AckBlock}
-use Rattle.rm_elements.specs.declared.header.AckKind.TheVariants.{Ranges, Nothing, Nack}
-use Rattle.rm_elements.specs.declared.header.Header.{Header}
-use Rattle.rm_elements.specs.declared.header.Header.TheVariants.{Sequence, Ack, Ask, Pending}
-use Rattle.rm_elements.specs.declared.header.SeqHeader.{SeqHeader}
-use Rattle.rm_elements.specs.declared.read.HeaderName.{HeaderName}
-use Rattle.rm_elements.specs.declared.read.HeaderName.TheVariants as names
+use Rattle.rm_message.specs.Elements.Headers.{ident_of, identifier, counted, number_in, number_of, unless_zero}
+use Rattle.rm_message.specs.Elements.Headers.{message_number}
+use Rattle.rm_message.specs.Elements.Headers.{numbered_in, unless_rolled, bound_in, range_of, ack_of, ack_in}
+use Rattle.rm_message.specs.Elements.Headers.{pending_in, header_name, header_as, header_of}
+use Rattle.rm_message.specs.Elements.Outcome.{rm, named}
+use Rattle.rm_message.specs.Elements.Writable.{IsNumber, IsRange, IsAckWritable, IsHeaderWritable}
+use Rattle.rm_message.specs.declared.elements.error.ElementError.TheVariants.{Rollover}
+use Rattle.rm_message.specs.declared.elements.header.AckBlock.{AckBlock}
+use Rattle.rm_message.specs.declared.elements.header.AckKind.TheVariants.{Ranges, Nothing, Nack}
+use Rattle.rm_message.specs.declared.elements.header.Header.{Header}
+use Rattle.rm_message.specs.declared.elements.header.Header.TheVariants.{Sequence, Ack, Ask, Pending}
+use Rattle.rm_message.specs.declared.elements.header.SeqHeader.{SeqHeader}
+use Rattle.rm_message.specs.declared.elements.read.HeaderName.{HeaderName}
+use Rattle.rm_message.specs.declared.elements.read.HeaderName.TheVariants as names
 use Rattle.read_laws.proofs.Lists.{each_is}
 use Rattle.read_laws.proofs.Texts.{text_read}
 

@@ -15,28 +15,28 @@ use Rattle.soap_values.specs.Values.{trimmed_text}
 use Rattle.wsa_headers.specs.Endpoint.{uri_of, epr_of}
 use Rattle.wsa_headers.specs.Writable.{IsEprWritable}
 use Rattle.wsa_headers.specs.declared.endpoint.Epr.{Epr}
-use Rattle.rm_elements.specs.Duration.{at_least_one, lapse_from, span_in, duration_in}
-use Rattle.rm_elements.specs.Headers.{identifier, number_of}
-use Rattle.rm_elements.specs.Lifecycle.{reference_in, lapse_at, expires_in, behaviour_in, offer_of, offer_in}
-use Rattle.rm_elements.specs.Lifecycle.{create_in}
-use Rattle.rm_elements.specs.Lifecycle.{accept_of, accept_in, response_in, finish_in, has_other, make_in}
-use Rattle.rm_elements.specs.Lifecycle.{body_name}
-use Rattle.rm_elements.specs.Lifecycle.{body_as, lifecycle_of}
-use Rattle.rm_elements.specs.Outcome.{rm, mc, named}
-use Rattle.rm_elements.specs.Writable.{IsNumber, IsLapseWritable, IsOfferWritable, IsCreateWritable}
-use Rattle.rm_elements.specs.Writable.{IsResponseWritable}
-use Rattle.rm_elements.specs.Writable.{IsFinishWritable, IsLifecycleWritable}
-use Rattle.rm_elements.specs.declared.duration.Span.{Span}
+use Rattle.rm_message.specs.Elements.Duration.{at_least_one, lapse_from, span_in, duration_in}
+use Rattle.rm_message.specs.Elements.Headers.{identifier, number_of}
+use Rattle.rm_message.specs.Elements.Lifecycle.{reference_in, lapse_at, expires_in, behaviour_in, offer_of, offer_in}
+use Rattle.rm_message.specs.Elements.Lifecycle.{create_in}
+use Rattle.rm_message.specs.Elements.Lifecycle.{accept_of, accept_in, response_in, finish_in, has_other, make_in}
+use Rattle.rm_message.specs.Elements.Lifecycle.{body_name}
+use Rattle.rm_message.specs.Elements.Lifecycle.{body_as, lifecycle_of}
+use Rattle.rm_message.specs.Elements.Outcome.{rm, mc, named}
+use Rattle.rm_message.specs.Elements.Writable.{IsNumber, IsLapseWritable, IsOfferWritable, IsCreateWritable}
+use Rattle.rm_message.specs.Elements.Writable.{IsResponseWritable}
+use Rattle.rm_message.specs.Elements.Writable.{IsFinishWritable, IsLifecycleWritable}
+use Rattle.rm_message.specs.declared.elements.duration.Span.{Span}
 use Rattle.rm_base.specs.declared.lapse.Lapse.{Lapse}
-use Rattle.rm_elements.specs.declared.lifecycle.CreateResponse.{CreateResponse}
-use Rattle.rm_elements.specs.declared.lifecycle.CreateSequence.{CreateSequence}
-use Rattle.rm_elements.specs.declared.lifecycle.Finish.{Finish}
-use Rattle.rm_elements.specs.declared.lifecycle.Lifecycle.{Lifecycle}
-use Rattle.rm_elements.specs.declared.lifecycle.Lifecycle.TheVariants as bodies
-use Rattle.rm_elements.specs.declared.lifecycle.MakeConnection.{MakeConnection}
-use Rattle.rm_elements.specs.declared.lifecycle.Offer.{Offer}
-use Rattle.rm_elements.specs.declared.read.BodyName.{BodyName}
-use Rattle.rm_elements.specs.declared.read.BodyName.TheVariants as names
+use Rattle.rm_message.specs.declared.elements.lifecycle.CreateResponse.{CreateResponse}
+use Rattle.rm_message.specs.declared.elements.lifecycle.CreateSequence.{CreateSequence}
+use Rattle.rm_message.specs.declared.elements.lifecycle.Finish.{Finish}
+use Rattle.rm_message.specs.declared.elements.lifecycle.Lifecycle.{Lifecycle}
+use Rattle.rm_message.specs.declared.elements.lifecycle.Lifecycle.TheVariants as bodies
+use Rattle.rm_message.specs.declared.elements.lifecycle.MakeConnection.{MakeConnection}
+use Rattle.rm_message.specs.declared.elements.lifecycle.Offer.{Offer}
+use Rattle.rm_message.specs.declared.elements.read.BodyName.{BodyName}
+use Rattle.rm_message.specs.declared.elements.read.BodyName.TheVariants as names
 use Rattle.read_laws.proofs.Headers.{identifier_is, number_is, IsAny}
 use Rattle.read_laws.proofs.Lists.{all_filter, single_is, present_is, found_is}
 use Rattle.read_laws.proofs.Params.{epr_is}

@@ -21,15 +21,15 @@ use Rattle.wsa_headers.specs.Writable.{IsAddressingWritable}
 use Rattle.wsa_headers.specs.declared.addressing.Addressing.{Addressing}
 use Rattle.wsa_headers.specs.declared.error.AddressingError.{AddressingError}
 use Rattle.wsa_headers.specs.declared.error.AddressingError.TheVariants as errors
-use Rattle.rm_elements.specs.Headers.{header_of}
-use Rattle.rm_elements.specs.Outcome.{rm}
-use Rattle.rm_elements.specs.Writable.{IsAckWritable}
-use Rattle.rm_elements.specs.declared.error.ElementError.{ElementError}
-use Rattle.rm_elements.specs.declared.error.ElementError.TheVariants as flaws
-use Rattle.rm_elements.specs.declared.header.AckBlock.{AckBlock}
-use Rattle.rm_elements.specs.declared.header.Header.{Header}
-use Rattle.rm_elements.specs.declared.header.Header.TheVariants as heads
-use Rattle.rm_elements.specs.declared.header.SeqHeader.{SeqHeader}
+use Rattle.rm_message.specs.Elements.Headers.{header_of}
+use Rattle.rm_message.specs.Elements.Outcome.{rm}
+use Rattle.rm_message.specs.Elements.Writable.{IsAckWritable}
+use Rattle.rm_message.specs.declared.elements.error.ElementError.{ElementError}
+use Rattle.rm_message.specs.declared.elements.error.ElementError.TheVariants as flaws
+use Rattle.rm_message.specs.declared.elements.header.AckBlock.{AckBlock}
+use Rattle.rm_message.specs.declared.elements.header.Header.{Header}
+use Rattle.rm_message.specs.declared.elements.header.Header.TheVariants as heads
+use Rattle.rm_message.specs.declared.elements.header.SeqHeader.{SeqHeader}
 use Rattle.rm_message.specs.Actions.{create_sequence}
 use Rattle.rm_message.specs.declared.message.Body.{Body}
 use Rattle.rm_message.specs.declared.message.Body.TheVariants as bodies

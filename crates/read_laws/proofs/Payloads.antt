@@ -12,13 +12,13 @@ use Rattle.soap_writer.specs.Stripped.Resolved.{IsResolved}
 use Rattle.soap_values.specs.Children.{has_name}
 use Rattle.soap_values.specs.Outcome.{◌>>=◌, single, optional}
 use Rattle.wsa_headers.specs.declared.addressing.Addressing.{Addressing}
-use Rattle.rm_elements.specs.Lifecycle.{lifecycle_of}
-use Rattle.rm_elements.specs.Headers.{header_of}
-use Rattle.rm_elements.specs.declared.error.ElementError.{ElementError}
-use Rattle.rm_elements.specs.declared.error.ElementError.TheVariants as flaws
-use Rattle.rm_elements.specs.declared.header.Header.{Header}
-use Rattle.rm_elements.specs.declared.header.Header.TheVariants as heads
-use Rattle.rm_elements.specs.declared.lifecycle.Lifecycle.{Lifecycle}
+use Rattle.rm_message.specs.Elements.Lifecycle.{lifecycle_of}
+use Rattle.rm_message.specs.Elements.Headers.{header_of}
+use Rattle.rm_message.specs.declared.elements.error.ElementError.{ElementError}
+use Rattle.rm_message.specs.declared.elements.error.ElementError.TheVariants as flaws
+use Rattle.rm_message.specs.declared.elements.header.Header.{Header}
+use Rattle.rm_message.specs.declared.elements.header.Header.TheVariants as heads
+use Rattle.rm_message.specs.declared.elements.lifecycle.Lifecycle.{Lifecycle}
 use Rattle.rm_message.specs.declared.message.Body.{Body}
 use Rattle.rm_message.specs.declared.message.Body.TheVariants as bodies
 use Rattle.rm_message.specs.declared.message.Message.{Message}

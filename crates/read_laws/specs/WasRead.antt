@@ -6,8 +6,8 @@ use Rattle.rm_base.specs.Text.{IsText}
 use Rattle.soap_writer.specs.Writable.{IsNameWritable}
 use Rattle.wsa_headers.specs.Writable.{IsAddressingWritable}
 use Rattle.wsa_headers.specs.declared.addressing.Addressing.{Addressing}
-use Rattle.rm_elements.specs.Writable.{IsSequenceWritable, IsAckWritable, IsLifecycleWritable}
-use Rattle.rm_elements.specs.declared.header.SeqHeader.{SeqHeader}
+use Rattle.rm_message.specs.Elements.Writable.{IsSequenceWritable, IsAckWritable, IsLifecycleWritable}
+use Rattle.rm_message.specs.declared.elements.header.SeqHeader.{SeqHeader}
 use Rattle.rm_message.specs.declared.message.Body.{Body}
 use Rattle.rm_message.specs.declared.message.Body.TheVariants as body
 use Rattle.rm_message.specs.declared.message.Message.{Message}

@@ -1,6 +1,6 @@
 -- What is said to a message doesn't depend on what its payload has.
 use Rattle.std.proofs.Common.{◌≡◌, ℕ, List, ◌++◌, [], refl, ap, ◌∙◌, Option, Some, None}
-use Rattle.rm_elements.specs.declared.header.SeqHeader.{SeqHeader}
+use Rattle.rm_message.specs.declared.elements.header.SeqHeader.{SeqHeader}
 use Rattle.rm_message.specs.declared.message.Body.{Body}
 use Rattle.rm_message.specs.declared.message.Body.TheVariants.{Empty, Payload, Lifecycle, Fault}
 use Rattle.rm_message.specs.declared.message.Message.{Message}

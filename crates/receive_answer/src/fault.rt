@@ -19,7 +19,7 @@ use node_messages::fault_endpoint;
 use receive_replies::fault_block;
 use receive_replies::verdict::target;
 use rm_base::{Ident, Memory, copy_optional_uri};
-use rm_elements::AckBlock;
+use rm_message::elements::AckBlock;
 use rm_message::{FaultKind, Message, Names, Refusal};
 use std::alloc::Global;
 use tables_ahead::Known;

@@ -8,7 +8,7 @@ ghost use Rattle.receive_answer.specs.Untold.{urging as urging_of};
 use node_laws::answers::Moves;
 use node_tables::Tables;
 use rm_base::Memory;
-use rm_elements::{AckBlock, AckKind};
+use rm_message::elements::{AckBlock, AckKind};
 use rm_message::Message;
 use timers::slots::Key;
 use std::alloc::Global;

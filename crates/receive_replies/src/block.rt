@@ -13,7 +13,7 @@ ghost use Rattle.tables_ahead.specs.Known.{all_records};
 use node_messages::ack_block;
 use crate::verdict::is_invalid;
 use rm_base::{Ident, Memory};
-use rm_elements::{AckBlock, SeqHeader, copy_block};
+use rm_message::elements::{AckBlock, SeqHeader, copy_block};
 use rm_message::{FaultKind, Message};
 use std::alloc::Global;
 use tables_ahead::Known;

@@ -19,7 +19,7 @@ use node_messages::{Home, close_response, grant_response, reply_endpoint, termin
 use node_tables::Maker;
 use node_tables::laws::a_node_with_a_number_has_an_address;
 use rm_base::{Ident, Memory, Uri};
-use rm_elements::Lifecycle;
+use rm_message::elements::Lifecycle;
 use rm_message::{Body, Message};
 use std::alloc::Global;
 use tables_ahead::Known;

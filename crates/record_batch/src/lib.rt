@@ -1,5 +1,5 @@
 //! The records that a node's journal holds, and the bytes of a batch of them. It stands on endpoint references,
-//! `wsa_headers`, on durations, `rm_elements`, on sets of message numbers, `rm_sides::ranges`, and on the readers and writers
+//! `wsa_headers`, on durations, `rm_message::elements`, on sets of message numbers, `rm_sides::ranges`, and on the readers and writers
 //! of elements and values. The layers above may use the contracts of `write_batch` and `read_batch`, and the laws that
 //! what is written is read back and nothing else is, by `specs/`.
 #![tactic(auto)]

@@ -1,4 +1,4 @@
-//! Whole messages, as values. It stands on header blocks and body elements, `rm_elements`, on addressing headers,
+//! Whole messages, as values. It stands on header blocks and body elements, `elements`, on addressing headers,
 //! `wsa_headers`, and on envelopes.
 #![tactic(auto)]
 
@@ -8,3 +8,5 @@ pub mod refusal;
 
 pub use message::{Acks, Body, FaultBody, FaultCode, Idents, Message, Names};
 pub use refusal::{DecodeError, FaultKind, ROLLOVER, Refusal};
+
+pub mod elements;

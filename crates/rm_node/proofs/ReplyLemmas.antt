@@ -8,8 +8,8 @@ use Rattle.soap_envelope.specs.Soap.{soap_space}
 use Rattle.message_writer.specs.Text.{message_text}
 use Rattle.rm_base.specs.declared.message.Behaviour.{Behaviour}
 use Rattle.record_batch.specs.Fact.{Fact}
-use Rattle.rm_elements.specs.declared.lifecycle.Lifecycle.{Lifecycle}
-use Rattle.rm_elements.specs.declared.lifecycle.Lifecycle.TheVariants as life
+use Rattle.rm_message.specs.declared.elements.lifecycle.Lifecycle.{Lifecycle}
+use Rattle.rm_message.specs.declared.elements.lifecycle.Lifecycle.TheVariants as life
 use Rattle.rm_message.specs.declared.message.Body.{Body}
 use Rattle.rm_message.specs.declared.message.Body.TheVariants as body
 use Rattle.rm_message.specs.declared.message.Message.{Message}

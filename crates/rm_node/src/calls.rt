@@ -1,7 +1,7 @@
 //! The calls of a node by their names.
 ghost use Rattle.std.specs.Prelude.{◌≡◌, ◌⊎◌, ◌+◌, ◌≤◌, true, length, IfErr, IfOk};
 ghost use Rattle.rm_base.specs.Limits.{now_max};
-ghost use Rattle.rm_elements.specs.Writable.{IsLapseWritable};
+ghost use Rattle.rm_message.specs.Elements.Writable.{IsLapseWritable};
 ghost use Rattle.sequence_table.specs.Fits.{is_outgoing_side};
 ghost use Rattle.sequence_table.specs.Makers.{maker, makers};
 ghost use Rattle.sequence_table.specs.Sources.{accepted_count};

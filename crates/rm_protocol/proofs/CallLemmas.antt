@@ -10,7 +10,7 @@ use Rattle.rm_base.specs.Message.{max_number}
 use Rattle.rm_base.specs.declared.message.Behaviour.{Behaviour}
 use Rattle.rm_base.specs.declared.message.Cause.TheVariants.{Operator, Expired}
 use Rattle.rm_base.specs.declared.lapse.Lapse.{Lapse}
-use Rattle.rm_elements.specs.declared.lifecycle.Lifecycle.TheVariants as life
+use Rattle.rm_message.specs.declared.elements.lifecycle.Lifecycle.TheVariants as life
 use Rattle.rm_sides.specs.declared.source.phase.OutPhase.{OutPhase}
 use Rattle.rm_message.specs.declared.message.Body.TheVariants as body
 use Rattle.rm_message.specs.declared.message.Message.{Message}
@@ -46,8 +46,8 @@ use Rattle.rm_protocol.specs.Calls.{nack_missing, consume, consume_in, cursor_to
 use Rattle.rm_protocol.specs.Calls.{made_by}
 use Rattle.rm_protocol.specs.Addresses.{is_anonymous}
 use Rattle.wsa_headers.specs.declared.endpoint.Epr.{Epr}
-use Rattle.rm_elements.specs.declared.header.AckBlock.{AckBlock}
-use Rattle.rm_elements.specs.declared.header.AckKind.TheVariants as kind
+use Rattle.rm_message.specs.declared.elements.header.AckBlock.{AckBlock}
+use Rattle.rm_message.specs.declared.elements.header.AckKind.TheVariants as kind
 use Rattle.timers.specs.declared.slots.timers.Key.{Key}
 use Rattle.timers.specs.Keys.Waits.{Wait, first_due}
 use Rattle.rm_protocol.specs.Heard.{Heard}

@@ -11,10 +11,10 @@ use Rattle.rm_base.specs.Numbered.{numbered}
 use Rattle.rm_base.specs.NumberSet.{has_number}
 use Rattle.rm_base.specs.declared.message.Cause.TheVariants.{Peer}
 use Rattle.rm_base.specs.declared.message.Payload.{Payload}
-use Rattle.rm_elements.specs.declared.header.AckBlock.{AckBlock}
-use Rattle.rm_elements.specs.declared.header.SeqHeader.{SeqHeader}
-use Rattle.rm_elements.specs.declared.lifecycle.Lifecycle.TheVariants as life
-use Rattle.rm_elements.specs.declared.lifecycle.Offer.{Offer}
+use Rattle.rm_message.specs.declared.elements.header.AckBlock.{AckBlock}
+use Rattle.rm_message.specs.declared.elements.header.SeqHeader.{SeqHeader}
+use Rattle.rm_message.specs.declared.elements.lifecycle.Lifecycle.TheVariants as life
+use Rattle.rm_message.specs.declared.elements.lifecycle.Offer.{Offer}
 use Rattle.rm_message.specs.declared.message.Body.{Body}
 use Rattle.rm_message.specs.declared.message.Body.TheVariants as body
 use Rattle.rm_message.specs.declared.message.Message.{Message}

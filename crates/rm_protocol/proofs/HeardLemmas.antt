@@ -8,12 +8,12 @@ use Rattle.rm_base.specs.NumberSet.{has_number}
 use Rattle.rm_base.specs.declared.message.Behaviour.{Behaviour}
 use Rattle.rm_base.specs.declared.message.Cause.TheVariants.{Peer, NotTaken}
 use Rattle.rm_base.specs.declared.message.Payload.{Payload}
-use Rattle.rm_elements.specs.declared.header.AckBlock.{AckBlock}
-use Rattle.rm_elements.specs.declared.header.SeqHeader.{SeqHeader}
-use Rattle.rm_elements.specs.declared.lifecycle.CreateResponse.{CreateResponse}
-use Rattle.rm_elements.specs.declared.lifecycle.CreateSequence.{CreateSequence}
-use Rattle.rm_elements.specs.declared.lifecycle.Lifecycle.TheVariants as life
-use Rattle.rm_elements.specs.declared.lifecycle.Offer.{Offer}
+use Rattle.rm_message.specs.declared.elements.header.AckBlock.{AckBlock}
+use Rattle.rm_message.specs.declared.elements.header.SeqHeader.{SeqHeader}
+use Rattle.rm_message.specs.declared.elements.lifecycle.CreateResponse.{CreateResponse}
+use Rattle.rm_message.specs.declared.elements.lifecycle.CreateSequence.{CreateSequence}
+use Rattle.rm_message.specs.declared.elements.lifecycle.Lifecycle.TheVariants as life
+use Rattle.rm_message.specs.declared.elements.lifecycle.Offer.{Offer}
 use Rattle.rm_sides.specs.declared.source.phase.OutPhase.{OutPhase}
 use Rattle.rm_sides.specs.declared.source.phase.OutPhase.TheVariants as out
 use Rattle.rm_message.specs.declared.message.Body.{Body}

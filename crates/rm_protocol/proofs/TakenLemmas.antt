@@ -7,8 +7,8 @@ use Rattle.std.proofs.lemmas.Bool.{eq-eqb}
 use Rattle.rm_base.specs.Numbered.{numbered}
 use Rattle.rm_base.specs.NumberSet.{has_number}
 use Rattle.rm_base.specs.declared.message.Payload.{Payload}
-use Rattle.rm_elements.specs.declared.header.AckBlock.{AckBlock}
-use Rattle.rm_elements.specs.declared.header.SeqHeader.{SeqHeader}
+use Rattle.rm_message.specs.declared.elements.header.AckBlock.{AckBlock}
+use Rattle.rm_message.specs.declared.elements.header.SeqHeader.{SeqHeader}
 use Rattle.rm_message.specs.declared.message.Body.TheVariants as body
 use Rattle.rm_message.specs.declared.message.Message.{Message}
 use Rattle.rm_message.specs.declared.refusal.FaultKind.{FaultKind}

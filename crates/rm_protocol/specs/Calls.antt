@@ -7,8 +7,8 @@ use Rattle.rm_base.specs.Limits as limits
 use Rattle.rm_base.specs.Message.{max_number}
 use Rattle.rm_base.specs.declared.message.Behaviour.{Behaviour}
 use Rattle.rm_base.specs.declared.message.Cause.TheVariants.{Operator, Expired}
-use Rattle.rm_elements.specs.declared.header.AckBlock.{AckBlock}
-use Rattle.rm_elements.specs.declared.header.SeqHeader.{SeqHeader}
+use Rattle.rm_message.specs.declared.elements.header.AckBlock.{AckBlock}
+use Rattle.rm_message.specs.declared.elements.header.SeqHeader.{SeqHeader}
 use Rattle.rm_base.specs.declared.lapse.Lapse.{Lapse}
 use Rattle.rm_sides.specs.declared.source.phase.OutPhase.{OutPhase}
 use Rattle.rm_sides.specs.declared.source.phase.OutPhase.TheVariants as out
@@ -40,7 +40,7 @@ use Rattle.timers.specs.declared.slots.timers.Key.{Key}
 use Rattle.timers.specs.Keys.Waits.{Wait, first_due}
 use Rattle.rm_sides.specs.Ranges.Ranges.{greatest_of}
 use Rattle.wsa_headers.specs.declared.endpoint.Epr.{Epr}
-use Rattle.rm_elements.specs.declared.header.AckKind.TheVariants as kind
+use Rattle.rm_message.specs.declared.elements.header.AckKind.TheVariants as kind
 
 -- why a call is refused, in the order in which it is tested
 pub data Cause : Type 0 where

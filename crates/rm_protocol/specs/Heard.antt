@@ -2,11 +2,11 @@
 use Rattle.std.specs.Prelude.{◌≡◌, ◌⊎◌, ℕ, [], Option, Some, IfSome, slice_get}
 use Rattle.rm_sides.specs.Ranges.Changes.{united}
 use Rattle.rm_base.specs.declared.message.Cause.TheVariants.{Peer, NotTaken}
-use Rattle.rm_elements.specs.declared.header.AckBlock.{AckBlock}
-use Rattle.rm_elements.specs.declared.lifecycle.CreateResponse.{CreateResponse}
-use Rattle.rm_elements.specs.declared.lifecycle.CreateSequence.{CreateSequence}
-use Rattle.rm_elements.specs.declared.lifecycle.Lifecycle.TheVariants as life
-use Rattle.rm_elements.specs.declared.lifecycle.Offer.{Offer}
+use Rattle.rm_message.specs.declared.elements.header.AckBlock.{AckBlock}
+use Rattle.rm_message.specs.declared.elements.lifecycle.CreateResponse.{CreateResponse}
+use Rattle.rm_message.specs.declared.elements.lifecycle.CreateSequence.{CreateSequence}
+use Rattle.rm_message.specs.declared.elements.lifecycle.Lifecycle.TheVariants as life
+use Rattle.rm_message.specs.declared.elements.lifecycle.Offer.{Offer}
 use Rattle.rm_message.specs.declared.message.Body.TheVariants as body
 use Rattle.rm_message.specs.declared.message.Message.{Message}
 use Rattle.record_batch.specs.declared.record.PeerOffer.{PeerOffer}

@@ -8,7 +8,7 @@ use Rattle.std.specs.List.{AllByRecursion, filter, flat_map}
 use Rattle.std.specs.Str.{bytes_eq}
 use Rattle.timers.specs.Pending.Waiting.{Queue, Waiting, packets_for, may_wait, with_packet, put, rest_of}
 use Rattle.timers.specs.Pending.Waiting.{without_first, first_in}
-use Rattle.rm_elements.specs.declared.header.AckBlock.{AckBlock}
+use Rattle.rm_message.specs.declared.elements.header.AckBlock.{AckBlock}
 use Rattle.rm_message.specs.declared.message.Message.{Message}
 use Rattle.rm_message.specs.declared.refusal.Refusal.{Refusal}
 use Rattle.sequence_table.specs.Words.{Text}

@@ -3,8 +3,8 @@
 use Rattle.std.specs.Prelude.{not, Bool, true, false, List, [], ◌∷◌, filter, flat_map, Option, Some, None}
 use Rattle.std.specs.Prelude.{Result, Ok, option_map}
 use Rattle.timers.specs.Pending.Waiting.{Waiting, oldest, polled, put}
-use Rattle.rm_elements.specs.declared.header.AckBlock.{AckBlock}
-use Rattle.rm_elements.specs.declared.lifecycle.Lifecycle.TheVariants as life
+use Rattle.rm_message.specs.declared.elements.header.AckBlock.{AckBlock}
+use Rattle.rm_message.specs.declared.elements.lifecycle.Lifecycle.TheVariants as life
 use Rattle.rm_message.specs.Actions.{make_connection}
 use Rattle.rm_message.specs.declared.message.Body.{Body}
 use Rattle.rm_message.specs.declared.message.Body.TheVariants as body

@@ -1,7 +1,7 @@
 -- What the definitions of this crate take from the layers that write, read and date.
 use Rattle.std.specs.Prelude.{◌≡◌, ◌⊎◌, ℕ, ◌<◌, ◌≤◌, Bool, List, [], Option, None, IfSome, Result, Ok, Err}
 use Rattle.std.specs.Option.{option_to_list}
-use Rattle.rm_elements.specs.declared.header.AckBlock.{AckBlock}
+use Rattle.rm_message.specs.declared.elements.header.AckBlock.{AckBlock}
 use Rattle.rm_base.specs.declared.lapse.Lapse.{Lapse}
 use Rattle.rm_message.specs.declared.message.Body.TheVariants as body
 use Rattle.rm_message.specs.declared.message.FaultBody.{FaultBody}

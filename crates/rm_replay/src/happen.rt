@@ -1,7 +1,7 @@
 //! What one line of a script does.
 ghost use Rattle.std.specs.Prelude.{◌≡◌, ◌≤◌, IfOk, false};
 ghost use Rattle.rm_base.specs.Text.{IsText};
-ghost use Rattle.rm_elements.specs.Writable.{IsLapseWritable};
+ghost use Rattle.rm_message.specs.Elements.Writable.{IsLapseWritable};
 ghost use Rattle.rm_replay.specs.Actor.Outcomes.{ends_by_disk};
 ghost use Rattle.node_laws.specs.OwnTerms.{AreOwn};
 ghost use Rattle.rm_protocol.specs.Terms.{Terms};

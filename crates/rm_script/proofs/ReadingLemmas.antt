@@ -8,7 +8,7 @@ use Rattle.hex.specs.Hex.{decode_of}
 use Rattle.hex.specs.declared.error.FromHexError.{FromHexError}
 use Rattle.rm_base.specs.declared.message.Behaviour.{Behaviour}
 use Rattle.rm_base.specs.declared.lapse.Lapse.{Lapse}
-use Rattle.rm_elements.specs.Duration.{duration_in}
+use Rattle.rm_message.specs.Elements.Duration.{duration_in}
 use Rattle.rm_script.specs.Script.{side_text, spaced, IsExpiry, IsNumber, IsOffer, IsPolled, IsWish, Says}
 use Rattle.rm_script.specs.Reading.{behind, word_of, behind_word, number_in, behaviour_in, node_in, call_in}
 use Rattle.rm_script.specs.Reading.{numbered_in, offer_in, create_with, create_behind, create_in, grant_in, text_in}

@@ -3,9 +3,9 @@ use Rattle.std.proofs.Common.{◌≡◌, ℕ, ◌≤◌, Bool, true, false, ◌=
 use Rattle.std.proofs.Common.{Option, None, Some, if◌then◌else◌, subst, inl, inr}
 use Rattle.std.proofs.lemmas.Bool.{and_parts}
 use Rattle.std.proofs.lemmas.Bool.Decides.{nat_tests}
-use Rattle.rm_elements.specs.Duration.{duration_in, span_in, lapse_from, at_least_one}
-use Rattle.rm_elements.specs.Writable.{IsLapseWritable}
-use Rattle.rm_elements.specs.declared.duration.Span.{Span}
+use Rattle.rm_message.specs.Elements.Duration.{duration_in, span_in, lapse_from, at_least_one}
+use Rattle.rm_message.specs.Elements.Writable.{IsLapseWritable}
+use Rattle.rm_message.specs.declared.elements.duration.Span.{Span}
 use Rattle.rm_base.specs.declared.lapse.Lapse.{Lapse}
 use Rattle.rm_script.specs.Script.{IsExpiry, Says}
 use Rattle.rm_script.specs.Within.{IsWithin}

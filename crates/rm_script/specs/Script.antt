@@ -8,7 +8,7 @@ use Rattle.hex.specs.Hex.{decode_of}
 use Rattle.rm_base.specs.declared.message.Behaviour.{Behaviour}
 use Rattle.rm_base.specs.declared.message.Behaviour.TheVariants.{NoDiscard, EntireSequence, FollowingFirstGap}
 use Rattle.rm_base.specs.declared.lapse.Lapse.{Lapse}
-use Rattle.rm_elements.specs.Duration.{duration_in}
+use Rattle.rm_message.specs.Elements.Duration.{duration_in}
 use Rattle.rm_script.specs.Bytes.{line_feed, space_byte}
 use Rattle.rm_script.specs.Said.{AreSaid, IsFirstUnsaid}
 use Rattle.rm_script.specs.declared.event.Side.{Side}

@@ -2,7 +2,7 @@
 use Rattle.std.specs.Prelude.{◌≢◌, ℕ, ◌≤◌, [], ⊤}
 use Rattle.rm_base.specs.Limits as limits
 use Rattle.rm_base.specs.Message.{max_number}
-use Rattle.rm_elements.specs.Writable.{IsLapseWritable}
+use Rattle.rm_message.specs.Elements.Writable.{IsLapseWritable}
 use Rattle.rm_script.specs.declared.event.Event.{Event}
 use Rattle.rm_script.specs.declared.event.Event.TheVariants.{Nothing, Create, Grant, Send, Tick, Deliver, Close, End}
 use Rattle.rm_script.specs.declared.event.Event.TheVariants.{Ask, Nack, Poll, Compact, Consume}

@@ -1,5 +1,5 @@
 //! Scripts of two nodes: what each line asks of a node or lets befall it, read exactly. It stands on durations,
-//! `rm_elements`, and on `rm_base`. The layer above may use `read_script` by the grammar, `specs/Script`, and the laws;
+//! `rm_message::elements`, and on `rm_base`. The layer above may use `read_script` by the grammar, `specs/Script`, and the laws;
 //! a reader of other scripts the words of a line, and what makes lines a script by what a line says, `specs/Said`.
 #![tactic(auto)]
 

@@ -32,7 +32,7 @@ use crate::word::{behaviour, behind, call, cut_word, node, number, numbered};
 use hex::FromHexError;
 use rm_base::limits::{MAX_NUMBER, MOST_PACKETS, MOST_SEQUENCES, NOW_MAX};
 use rm_base::{Behaviour, Blob, Lapse, Memory};
-use rm_elements::read_duration;
+use rm_message::elements::read_duration;
 use std::alloc::Global;
 
 /// The most device calls up to one that fails.

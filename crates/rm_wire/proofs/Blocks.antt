@@ -15,7 +15,7 @@ use Rattle.soap_writer.specs.Nodes.Node.{Node, Nodes, nothing, words, more, decl
 use Rattle.soap_values.specs.Children.{name_in}
 use Rattle.wsa_headers.specs.Texts.{addressing_nodes}
 use Rattle.wsa_headers.specs.Writable.{addressing_blocks, IsAddressingBlock}
-use Rattle.rm_elements.specs.Texts.{ack_node, ask_node, pending_node}
+use Rattle.rm_message.specs.Elements.Texts.{ack_node, ask_node, pending_node}
 use Rattle.rm_message.specs.declared.message.Message.{Message}
 use Rattle.message_reader.specs.Blocks.{is_block, blocks, is_understood, is_own, is_not_understood}
 use Rattle.message_writer.specs.Text.{node_list, not_understood_node, qname}

@@ -16,8 +16,8 @@ use Rattle.soap_writer.specs.Plain.{is_plain_name, name_from}
 use Rattle.soap_writer.specs.Writable.{IsNameWritable}
 use Rattle.wsa_headers.specs.Addressing.{first_of}
 use Rattle.wsa_headers.specs.Texts.{params_nodes}
-use Rattle.rm_elements.specs.Outcome.{rm}
-use Rattle.rm_elements.specs.Texts.{r}
+use Rattle.rm_message.specs.Elements.Outcome.{rm}
+use Rattle.rm_message.specs.Elements.Texts.{r}
 use Rattle.soap_writer.specs.Nodes.Node.{Node, Nodes, nothing, words, more, full, bare, node_tree, nodes_tree}
 use Rattle.soap_values.specs.Children.{name_in, has_name, children_named}
 use Rattle.soap_values.specs.Outcome.{single, optional}

@@ -25,15 +25,15 @@ use Rattle.soap_values.specs.Values.{trimmed}
 use Rattle.wsa_headers.specs.TextLaws.{text_writable}
 use Rattle.wsa_headers.specs.Writable.{IsParamWritable}
 use Rattle.rm_sides.specs.declared.ranges.range.Range.{Range}
-use Rattle.rm_elements.specs.Outcome.{rm}
-use Rattle.rm_elements.specs.Texts.{range_node, nack_node, final_nodes, kind_nodes}
-use Rattle.rm_elements.specs.Texts.{header_node}
-use Rattle.rm_elements.specs.Writable.{IsAckWritable, IsHeaderWritable}
-use Rattle.rm_elements.specs.declared.header.AckBlock.{AckBlock}
-use Rattle.rm_elements.specs.declared.header.AckKind.{AckKind}
-use Rattle.rm_elements.specs.declared.header.AckKind.TheVariants.{Ranges, Nothing, Nack}
-use Rattle.rm_elements.specs.declared.header.Header.{Header}
-use Rattle.rm_elements.specs.declared.header.Header.TheVariants as headers
+use Rattle.rm_message.specs.Elements.Outcome.{rm}
+use Rattle.rm_message.specs.Elements.Texts.{range_node, nack_node, final_nodes, kind_nodes}
+use Rattle.rm_message.specs.Elements.Texts.{header_node}
+use Rattle.rm_message.specs.Elements.Writable.{IsAckWritable, IsHeaderWritable}
+use Rattle.rm_message.specs.declared.elements.header.AckBlock.{AckBlock}
+use Rattle.rm_message.specs.declared.elements.header.AckKind.{AckKind}
+use Rattle.rm_message.specs.declared.elements.header.AckKind.TheVariants.{Ranges, Nothing, Nack}
+use Rattle.rm_message.specs.declared.elements.header.Header.{Header}
+use Rattle.rm_message.specs.declared.elements.header.Header.TheVariants as headers
 use Rattle.rm_message.specs.declared.message.FaultCode.{FaultCode}
 use Rattle.rm_message.specs.declared.refusal.FaultKind.{FaultKind}
 use Rattle.rm_message.specs.declared.refusal.FaultKind.TheVariants as kinds

@@ -6,7 +6,7 @@ use Rattle.soap_document.specs.Profile.Tree.{Element}
 use Rattle.soap_document.specs.declared.profile.name.Expanded.{Expanded}
 use Rattle.soap_writer.specs.Nodes.Node.{node_tree}
 use Rattle.wsa_headers.specs.Writable.{IsAddressingBlock, IsForeign}
-use Rattle.rm_elements.specs.Outcome.{rm, mc}
+use Rattle.rm_message.specs.Elements.Outcome.{rm, mc}
 use Rattle.rm_message.specs.declared.message.Body.{Body}
 use Rattle.rm_message.specs.declared.message.Body.TheVariants as body
 use Rattle.rm_message.specs.declared.message.Message.{Message}

@@ -19,12 +19,12 @@ use Rattle.soap_values.specs.Outcome.{each}
 use Rattle.soap_values.specs.QNames.{qname_in}
 use Rattle.wsa_headers.specs.Addressing.{first_of}
 use Rattle.wsa_headers.specs.Writable.{IsAddressingBlock, IsForeign}
-use Rattle.rm_elements.specs.Outcome.{rm, mc}
-use Rattle.rm_elements.specs.Texts.{ack_node, ask_node, pending_node}
-use Rattle.rm_elements.specs.Writable.{IsAckWritable}
-use Rattle.rm_elements.specs.declared.header.AckBlock.{AckBlock}
-use Rattle.rm_elements.specs.declared.header.Header.TheVariants as headers
-use Rattle.rm_elements.specs.declared.header.SeqHeader.{SeqHeader}
+use Rattle.rm_message.specs.Elements.Outcome.{rm, mc}
+use Rattle.rm_message.specs.Elements.Texts.{ack_node, ask_node, pending_node}
+use Rattle.rm_message.specs.Elements.Writable.{IsAckWritable}
+use Rattle.rm_message.specs.declared.elements.header.AckBlock.{AckBlock}
+use Rattle.rm_message.specs.declared.elements.header.Header.TheVariants as headers
+use Rattle.rm_message.specs.declared.elements.header.SeqHeader.{SeqHeader}
 use Rattle.rm_message.specs.declared.message.Message.{Message}
 use Rattle.message_reader.specs.Blocks.{is_block, blocks, has_block, is_understood, role_name, is_own}
 use Rattle.message_reader.specs.Blocks.{is_not_understood}

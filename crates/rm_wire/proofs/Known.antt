@@ -8,12 +8,12 @@ use Rattle.soap_writer.specs.Nodes.Node.{node_tree}
 use Rattle.wsa_headers.specs.Addressing.{addressing_in}
 use Rattle.wsa_headers.specs.Writable.{IsAddressingWritable, addressing_blocks, IsAddressingBlock, IsForeign}
 use Rattle.wsa_headers.specs.declared.addressing.Addressing.{Addressing}
-use Rattle.rm_elements.specs.Headers.{header_of}
-use Rattle.rm_elements.specs.Lifecycle.{lifecycle_of}
-use Rattle.rm_elements.specs.Texts.{header_node, lifecycle_node}
-use Rattle.rm_elements.specs.Writable.{IsHeaderWritable, IsLifecycleWritable}
-use Rattle.rm_elements.specs.declared.header.Header.{Header}
-use Rattle.rm_elements.specs.declared.lifecycle.Lifecycle.{Lifecycle}
+use Rattle.rm_message.specs.Elements.Headers.{header_of}
+use Rattle.rm_message.specs.Elements.Lifecycle.{lifecycle_of}
+use Rattle.rm_message.specs.Elements.Texts.{header_node, lifecycle_node}
+use Rattle.rm_message.specs.Elements.Writable.{IsHeaderWritable, IsLifecycleWritable}
+use Rattle.rm_message.specs.declared.elements.header.Header.{Header}
+use Rattle.rm_message.specs.declared.elements.lifecycle.Lifecycle.{Lifecycle}
 
 -- an element is kept but for its declarations
 abbrev pub KnowsTrees : Type 0

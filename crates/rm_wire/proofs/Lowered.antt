@@ -13,8 +13,8 @@ use Rattle.soap_writer.specs.Nodes.Node.{node_tree}
 use Rattle.wsa_headers.specs.Addressing.{addressing_in}
 use Rattle.wsa_headers.specs.Writable.{addressing_blocks}
 use Rattle.wsa_headers.specs.declared.addressing.Addressing.{Addressing}
-use Rattle.rm_elements.specs.declared.header.Header.TheVariants as headers
-use Rattle.rm_elements.specs.declared.header.SeqHeader.{SeqHeader}
+use Rattle.rm_message.specs.declared.elements.header.Header.TheVariants as headers
+use Rattle.rm_message.specs.declared.elements.header.SeqHeader.{SeqHeader}
 use Rattle.rm_message.specs.declared.message.Body.{Body}
 use Rattle.rm_message.specs.declared.message.Body.TheVariants as body
 use Rattle.rm_message.specs.declared.message.FaultBody.{FaultBody}

@@ -11,7 +11,7 @@ use Rattle.soap_writer.specs.Frame.{addressing_space}
 use Rattle.soap_envelope.specs.Frame.Tagged.{tagged_envelope}
 use Rattle.wsa_headers.specs.Addressing.{first_of}
 use Rattle.wsa_headers.specs.Writable.{addressing_blocks}
-use Rattle.rm_elements.specs.declared.header.SeqHeader.{SeqHeader}
+use Rattle.rm_message.specs.declared.elements.header.SeqHeader.{SeqHeader}
 use Rattle.rm_message.specs.declared.message.Body.TheVariants as body
 use Rattle.rm_message.specs.declared.message.Message.{Message}
 use Rattle.message_reader.specs.Bodies.{body_in}

@@ -26,13 +26,13 @@ use Rattle.wsa_headers.specs.Writable.{addressing_blocks}
 use Rattle.wsa_headers.specs.declared.addressing.Addressing.{Addressing}
 use Rattle.wsa_headers.specs.declared.error.AddressingError.TheVariants.{HeaderMissing}
 use Rattle.wsa_headers.specs.declared.tag.Tag.TheVariants as tags
-use Rattle.rm_elements.specs.Headers.{header_of}
-use Rattle.rm_elements.specs.Texts.{sequence_node}
-use Rattle.rm_elements.specs.Writable.{IsSequenceWritable}
-use Rattle.rm_elements.specs.declared.header.AckBlock.{AckBlock}
-use Rattle.rm_elements.specs.declared.header.Header.TheVariants as headers
-use Rattle.rm_elements.specs.declared.header.SeqHeader.{SeqHeader}
-use Rattle.rm_elements.specs.declared.lifecycle.Lifecycle.TheVariants as life
+use Rattle.rm_message.specs.Elements.Headers.{header_of}
+use Rattle.rm_message.specs.Elements.Texts.{sequence_node}
+use Rattle.rm_message.specs.Elements.Writable.{IsSequenceWritable}
+use Rattle.rm_message.specs.declared.elements.header.AckBlock.{AckBlock}
+use Rattle.rm_message.specs.declared.elements.header.Header.TheVariants as headers
+use Rattle.rm_message.specs.declared.elements.header.SeqHeader.{SeqHeader}
+use Rattle.rm_message.specs.declared.elements.lifecycle.Lifecycle.TheVariants as life
 use Rattle.rm_message.specs.Actions.{create_sequence}
 use Rattle.rm_message.specs.declared.message.Body.{Body}
 use Rattle.rm_message.specs.declared.message.Body.TheVariants as body

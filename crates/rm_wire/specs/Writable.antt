@@ -4,8 +4,8 @@ use Rattle.std.specs.List.{AllByRecursion}
 use Rattle.rm_base.specs.Text.{IsText}
 use Rattle.soap_writer.specs.Writable.{IsNameWritable}
 use Rattle.wsa_headers.specs.Writable.{IsEprWritable}
-use Rattle.rm_elements.specs.Writable.{IsAckWritable}
-use Rattle.rm_elements.specs.declared.header.AckBlock.{AckBlock}
+use Rattle.rm_message.specs.Elements.Writable.{IsAckWritable}
+use Rattle.rm_message.specs.declared.elements.header.AckBlock.{AckBlock}
 use Rattle.rm_message.specs.declared.refusal.Refusal.{Refusal}
 
 -- an endpoint, an address, names and an identifier, and the acknowledgement that goes with it, if there is one

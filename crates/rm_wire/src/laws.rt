@@ -10,7 +10,7 @@ ghost use Rattle.soap_envelope.specs.Soap.{soap_space, soap11_space, is_soap11};
 ghost use Rattle.soap_writer.specs.Nodes.Node.{node_tree};
 ghost use Rattle.wsa_headers.specs.Addressing.{first_of};
 ghost use Rattle.soap_writer.specs.Frame.{addressing_space};
-ghost use Rattle.rm_elements.specs.declared.header.AckBlock.{AckBlock as Acknowledgement};
+ghost use Rattle.rm_message.specs.declared.elements.header.AckBlock.{AckBlock as Acknowledgement};
 ghost use Rattle.rm_message.specs.declared.message.Message.{Message as Value};
 ghost use Rattle.rm_message.specs.declared.refusal.Refusal.{Refusal as Refused};
 ghost use Rattle.rm_message.specs.declared.message.FaultBody.{FaultBody as Said};
@@ -30,7 +30,7 @@ ghost use Rattle.rm_wire.specs.Writable.{IsRefusalWritable};
 
 use message_reader::laws::{a_message_is_not_refused, one_message};
 use message_writer::{text_is_an_envelope, text11_is_an_envelope};
-use rm_elements::laws::{
+use rm_message::elements::laws::{
     header_is_foreign, header_is_good, header_is_read_back, lifecycle_is_read_back,
 };
 use soap_writer::laws::written_tree_is_the_tree;

@@ -5,7 +5,7 @@ use crate::forms::{START11, is_text, joined, lowered};
 use rm_sides::ranges::Range;
 use message_writer::fault_message;
 use rm_base::{Blob, Ident, Memory, TextError, Uri};
-use rm_elements::{AckBlock, AckKind, Ranges};
+use rm_message::elements::{AckBlock, AckKind, Ranges};
 use rm_message::{Body, FaultBody, FaultCode, FaultKind, Message, Names, Refusal};
 use soap_document::profile::{Elements, Name, Shared};
 use soap11_gate::decode11;

@@ -1,7 +1,7 @@
 //! Messages of SOAP 1.1 as they are read.
 use crate::forms::{START11, joined, kind_of};
 use rm_base::{Binding, Memory, Payload};
-use rm_elements::SeqHeader;
+use rm_message::elements::SeqHeader;
 use rm_message::{Body, FaultBody, FaultCode, FaultKind, Message};
 use soap_document::profile::Name;
 use soap11_gate::decode11;

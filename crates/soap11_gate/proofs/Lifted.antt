@@ -28,7 +28,7 @@ use Rattle.soap_writer.specs.Plain.{name_from, chars_from}
 use Rattle.soap_writer.specs.ReadBack.{ContentReadsAs, IsAttributeWritten}
 use Rattle.rm_wire.specs.Payloads.{with_payload}
 use Rattle.rm_base.specs.declared.message.Payload.{Payload}
-use Rattle.rm_elements.specs.declared.header.SeqHeader.{SeqHeader}
+use Rattle.rm_message.specs.declared.elements.header.SeqHeader.{SeqHeader}
 use Rattle.rm_message.specs.declared.message.Body.{Body}
 use Rattle.rm_message.specs.declared.message.Body.TheVariants as body
 use Rattle.rm_message.specs.declared.message.Message.{Message}

@@ -2,7 +2,7 @@
 use Rattle.std.proofs.Common.{◌≡◌, ◌≤◌, [], Option, None, length, refl, subst, sym}
 use Rattle.soap_envelope.specs.Soap.{soap_space, soap11_space}
 use Rattle.wsa_headers.specs.declared.addressing.Addressing.{Addressing}
-use Rattle.rm_elements.specs.declared.header.SeqHeader.{SeqHeader}
+use Rattle.rm_message.specs.declared.elements.header.SeqHeader.{SeqHeader}
 use Rattle.rm_message.specs.declared.message.Body.{Body}
 use Rattle.rm_message.specs.declared.message.Body.TheVariants as body
 use Rattle.rm_message.specs.declared.message.Message.{Message}

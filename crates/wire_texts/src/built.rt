@@ -3,7 +3,7 @@ use crate::forms::{START, written};
 use rm_sides::ranges::Range;
 use message_reader::decode;
 use rm_base::{Blob, Ident, Memory, TextError, Uri};
-use rm_elements::{AckBlock, AckKind, Ranges};
+use rm_message::elements::{AckBlock, AckKind, Ranges};
 use rm_message::{Acks, Body, Idents, Message, Names};
 use soap_document::profile::Elements;
 use std::alloc::Global;

@@ -4,7 +4,7 @@ use crate::forms::{is_written, written};
 use rm_sides::ranges::Range;
 use message_writer::fault_message;
 use rm_base::{Blob, Ident, Memory, TextError, Uri};
-use rm_elements::{AckBlock, AckKind, Ranges};
+use rm_message::elements::{AckBlock, AckKind, Ranges};
 use rm_message::{FaultKind, Names, Refusal};
 use soap_document::profile::{Elements, Name, Shared};
 use std::alloc::Global;

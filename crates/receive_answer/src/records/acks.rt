@@ -17,7 +17,7 @@ use rm_sides::ranges::{Range, RangeSet};
 use node_messages::ranges_of;
 use record_batch::Record;
 use rm_base::Memory;
-use rm_elements::AckBlock;
+use rm_message::elements::AckBlock;
 use rm_sides::source::OutPhase;
 use std::alloc::Global;
 use tables_ahead::Known;

@@ -20,7 +20,7 @@ use crate::records::offers::drop_offer;
 use record_batch::Record;
 use rm_base::limits::WINDOW;
 use rm_base::{Cause, Ident, Memory, Payload, Uri};
-use rm_elements::{CreateResponse, Finish, SeqHeader};
+use rm_message::elements::{CreateResponse, Finish, SeqHeader};
 use rm_sides::source::OutPhase;
 use std::alloc::Global;
 use tables_ahead::Known;

@@ -19,7 +19,7 @@ use crate::records::offers::drop_offer;
 use node_messages::ident_of;
 use record_batch::Record;
 use rm_base::{Memory, Uri};
-use rm_elements::MESSAGING;
+use rm_message::elements::MESSAGING;
 use rm_message::{FaultBody, FaultKind, ROLLOVER};
 use rm_sides::source::OutPhase;
 use soap_document::profile::{Element, Name};

@@ -17,7 +17,7 @@ use node_tables::Maker;
 use record_batch::{PeerOffer, Record};
 use rm_base::limits::MOST_SEQUENCES;
 use rm_base::{Cause, Memory};
-use rm_elements::Offer;
+use rm_message::elements::Offer;
 use std::alloc::Global;
 use tables_ahead::Known;
 

@@ -17,7 +17,7 @@ use crate::records::bodies::{close_row, closed_row, data_row, ended_row, respons
 use crate::records::create::create_row;
 use crate::records::faults::fault_row;
 use rm_base::{Behaviour, Bindings, Blob, Memory, Payload};
-use rm_elements::Lifecycle;
+use rm_message::elements::Lifecycle;
 use rm_message::{Body, Message};
 use std::alloc::Global;
 use std::mem;

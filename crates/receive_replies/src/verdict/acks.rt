@@ -16,7 +16,7 @@ ghost use Rattle.tables_ahead.specs.Known.{all_records};
 use rm_sides::ranges::Range;
 use node_messages::ranges_of;
 use rm_base::Ident;
-use rm_elements::AckBlock;
+use rm_message::elements::AckBlock;
 use rm_message::{Body, Message};
 use tables_ahead::Known;
 

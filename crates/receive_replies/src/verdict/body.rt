@@ -15,7 +15,7 @@ ghost use Rattle.tables_ahead.specs.Known.{all_records};
 use node_messages::is_nowhere;
 use rm_base::Uri;
 use rm_base::limits::MOST_SEQUENCES;
-use rm_elements::{CreateSequence, Lifecycle};
+use rm_message::elements::{CreateSequence, Lifecycle};
 use rm_message::{Body, Message};
 use tables_ahead::Known;
 

@@ -14,7 +14,7 @@ ghost use Rattle.rm_protocol.specs.Verdict.{
 ghost use Rattle.tables_ahead.specs.Known.{all_records};
 
 use rm_base::Ident;
-use rm_elements::Lifecycle;
+use rm_message::elements::Lifecycle;
 use rm_message::{Body, Message};
 use tables_ahead::Known;
 

@@ -3,8 +3,8 @@ use Rattle.soap_envelope.specs.Soap.{soap_space}
 use Rattle.soap_document.specs.Profile.Tree.{child}
 use Rattle.soap_document.specs.Profile.View.{items_view}
 use Rattle.soap_writer.specs.Nodes.Node.{nodes_tree}
-use Rattle.rm_elements.specs.Outcome.{rm}
-use Rattle.rm_elements.specs.Texts.{kind_nodes, final_nodes}
+use Rattle.rm_message.specs.Elements.Outcome.{rm}
+use Rattle.rm_message.specs.Elements.Texts.{kind_nodes, final_nodes}
 use Rattle.message_writer.specs.Faults.{ident_element}
 use Rattle.message_writer.proofs.TreeLemmas.{only_parts}
 use Rattle.message_writer.proofs.trees.ack_tree.Goals as goal

@@ -3,7 +3,7 @@ use Rattle.soap_document.specs.Profile.Items.{listed}
 use Rattle.soap_envelope.specs.Soap.{soap_space}
 use Rattle.soap_document.specs.Profile.View.{items_view}
 use Rattle.soap_writer.specs.Nodes.Node.{nothing, each_node, nodes_tree}
-use Rattle.rm_elements.specs.Texts.{nack_node}
+use Rattle.rm_message.specs.Elements.Texts.{nack_node}
 use Rattle.message_writer.proofs.trees.push_nacks.Given as goal
 
 -- those so far, and those of what is left

@@ -1,5 +1,5 @@
 use Rattle.std.proofs.Common.{◌≡◌, ◌++◌, drop, map}
-use Rattle.rm_elements.specs.Texts.{ack_node}
+use Rattle.rm_message.specs.Elements.Texts.{ack_node}
 use Rattle.message_writer.specs.Text.{blocks_text}
 use Rattle.message_writer.proofs.write.push_acks.Given as goal
 

@@ -1,5 +1,5 @@
 use Rattle.std.proofs.Common.{◌≡◌, ◌++◌, drop, map}
-use Rattle.rm_elements.specs.Texts.{ask_node}
+use Rattle.rm_message.specs.Elements.Texts.{ask_node}
 use Rattle.message_writer.specs.Text.{blocks_text}
 use Rattle.message_writer.proofs.write.push_asks.Given as goal
 

@@ -1,7 +1,7 @@
 use Rattle.std.proofs.Common.{◌≡◌, ℕ, List, ap, subst, ◌∙◌}
 use Rattle.std.specs.Prelude.{IfOk}
 use Rattle.std.specs.Option.{option_to_list}
-use Rattle.rm_elements.specs.declared.header.AckBlock.{AckBlock}
+use Rattle.rm_message.specs.declared.elements.header.AckBlock.{AckBlock}
 use Rattle.rm_message.specs.declared.message.Message.{Message}
 use Rattle.sequence_table.specs.Words.{Text}
 use Rattle.sequence_table.specs.Idents.{issue}

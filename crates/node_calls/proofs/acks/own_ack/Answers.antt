@@ -1,5 +1,5 @@
 use Rattle.std.proofs.Common.{List, [], ◌∷◌, ◌++◌, sym, ap, ◌∙◌}
-use Rattle.rm_elements.specs.declared.header.AckBlock.{AckBlock}
+use Rattle.rm_message.specs.declared.elements.header.AckBlock.{AckBlock}
 use Rattle.wsa_headers.specs.declared.endpoint.Epr.{Epr}
 use Rattle.rm_protocol.specs.Addresses.{is_anonymous}
 use Rattle.rm_protocol.specs.Messages.{ack_message}

@@ -1,6 +1,6 @@
 use Rattle.std.proofs.Common.{◌≡◌, ◌≤◌, ◌+◌, ◌++◌, ◌∷◌, [], arith, codes, subst, sym, ap, ◌∙◌, Bool, Option, Some}
 use Rattle.std.proofs.lemmas.Result.{IfOk-weaker}
-use Rattle.rm_elements.specs.declared.lifecycle.Lifecycle.TheVariants as life
+use Rattle.rm_message.specs.declared.elements.lifecycle.Lifecycle.TheVariants as life
 use Rattle.rm_message.specs.declared.message.Message.{Message}
 use Rattle.wsa_headers.specs.declared.endpoint.Epr.{Epr}
 use Rattle.sequence_table.specs.Find.{is_taken}

@@ -1,5 +1,0 @@
-use Rattle.rm_elements.proofs.LifecycleGood.{lifecycle_good}
-use Rattle.rm_elements.proofs.laws.lifecycle_is_good.Goals as goal
-
-pub returns : goal.returns
-returns c = lifecycle_good c.epr_is_good.ensures
