@@ -7,7 +7,7 @@ use Rattle.rm_message.specs.declared.message.Body.TheVariants as body
 use Rattle.rm_message.specs.declared.message.Message.{Message}
 use Rattle.rm_message.specs.declared.refusal.Refusal.{Refusal}
 use Rattle.message_reader.specs.Refusals.{Refuses, Spells}
-use Rattle.read_laws.specs.WasRead.{WasRead, IsBodyRead}
+use Rattle.rm_wire.specs.ReadLaws.WasRead.{WasRead, IsBodyRead}
 use Rattle.rm_wire.specs.Writable.{IsRefusalWritable}
 use Rattle.node_laws.specs.Read.{IsContentRead, IsBodyRead as IsBodyKept}
 use Rattle.rm_node.specs.Came.{IsReadAs}

@@ -20,7 +20,7 @@ use message_reader::decode;
 use message_reader::laws::{a_message_is_not_refused, one_message, one_refusal};
 use node_tables::Tables;
 use node_waits::selected;
-use read_laws::laws::what_is_read_may_be_written;
+use rm_wire::read_laws::laws::what_is_read_may_be_written;
 use rm_base::Memory;
 use rm_message::{DecodeError, Message, Refusal};
 use std::alloc::Global;

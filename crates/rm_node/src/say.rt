@@ -25,7 +25,7 @@ use node_laws::answers::Answer;
 use node_laws::laws::{each_call_keeps_the_records, there_are_own_terms};
 use node_tables::Tables;
 use node_waits::keys::due_keys;
-use read_laws::laws::{a_refusal_may_be_answered, what_is_read_may_be_written};
+use rm_wire::read_laws::laws::{a_refusal_may_be_answered, what_is_read_may_be_written};
 use rm_base::Memory;
 use rm_protocol::laws::{only_what_was_heard_is_recorded, what_begins_waits};
 use timers::slots::Key;

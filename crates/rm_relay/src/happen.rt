@@ -22,7 +22,7 @@ use node_laws::answers::Wish;
 use rm_replay::actor::Came;
 use rm_replay::actor::laws::each_image_is_left;
 use node_laws::laws::{each_message_keeps_the_rules, what_waits_keeps_the_rules};
-use read_laws::laws::{a_refusal_may_be_answered, what_is_read_may_be_written};
+use rm_wire::read_laws::laws::{a_refusal_may_be_answered, what_is_read_may_be_written};
 use record_batch::Via;
 use crate::word::Station;
 use rm_base::laws::texts_are_tested;

@@ -6,7 +6,7 @@ use Rattle.soap_envelope.specs.Soap.{soap_space}
 use Rattle.message_reader.specs.Refusals.{IsRefusal}
 use Rattle.rm_message.specs.declared.refusal.DecodeError.{DecodeError}
 use Rattle.rm_message.specs.declared.refusal.DecodeError.TheVariants as read
-use Rattle.soap11_gate.specs.Spells11.{IsRefusal11}
+use Rattle.rm_wire.specs.Soap11.Spells11.{IsRefusal11}
 use Rattle.rm_serve.specs.Versions.{Enters, IsTold, kept_out_by, untold_by}
 use Rattle.rm_serve.specs.declared.version.Entry.{Entry}
 

@@ -9,9 +9,9 @@ use Rattle.rm_message.specs.declared.refusal.DecodeError.{DecodeError}
 use Rattle.rm_message.specs.declared.refusal.DecodeError.TheVariants as read
 use Rattle.rm_message.specs.declared.refusal.Refusal.{Refusal}
 use Rattle.rm_node.specs.Came.{IsReadAs}
-use Rattle.soap11_gate.specs.Lift.{IsLifted}
-use Rattle.soap11_gate.specs.Lower.{lowered_text}
-use Rattle.soap11_gate.specs.Spells11.{IsRefusal11, Spells11}
+use Rattle.rm_wire.specs.Soap11.Lift.{IsLifted}
+use Rattle.rm_wire.specs.Soap11.Lower.{lowered_text}
+use Rattle.rm_wire.specs.Soap11.Spells11.{IsRefusal11, Spells11}
 use Rattle.rm_serve.specs.declared.version.Entry.{Entry}
 use Rattle.rm_serve.specs.declared.version.Entry.TheVariants.{Admitted, KeptOut}
 

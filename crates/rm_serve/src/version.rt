@@ -7,7 +7,7 @@ use http_endpoint::Media;
 use message_reader::decode;
 use rm_base::{Blob, Memory};
 use rm_message::{DecodeError, Refusal};
-use soap11_gate::{decode11, lift, lower};
+use rm_wire::soap11::{decode11, lift, lower};
 use std::alloc::Global;
 
 /// What becomes of a body: these bytes are given to the node, or it is kept out for this refusal.

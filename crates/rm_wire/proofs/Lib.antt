@@ -10,3 +10,5 @@ pub mod Lowered
 pub mod Names
 pub mod PayloadBack
 pub mod Together
+pub mod ReadLawsLemmas
+pub mod Soap11Lemmas

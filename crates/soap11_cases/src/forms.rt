@@ -1,7 +1,7 @@
 //! What the tests share: envelopes in parts, and what messages are lifted and lowered to.
 use rm_base::{Blob, Memory};
 use rm_message::{DecodeError, FaultKind, Message};
-use soap11_gate::{decode11, lift, lower};
+use rm_wire::soap11::{decode11, lift, lower};
 use std::alloc::Global;
 
 /// The start tag of an envelope of SOAP 1.1 in the form that is written.

@@ -8,7 +8,7 @@ use rm_base::{Blob, Ident, Memory, TextError, Uri};
 use rm_message::elements::{AckBlock, AckKind, Ranges};
 use rm_message::{Body, FaultBody, FaultCode, FaultKind, Message, Names, Refusal};
 use soap_document::profile::{Elements, Name, Shared};
-use soap11_gate::decode11;
+use rm_wire::soap11::decode11;
 use std::alloc::Global;
 use wsa_headers::Epr;
 

@@ -4,7 +4,7 @@ use rm_base::{Binding, Memory, Payload};
 use rm_message::elements::SeqHeader;
 use rm_message::{Body, FaultBody, FaultCode, FaultKind, Message};
 use soap_document::profile::Name;
-use soap11_gate::decode11;
+use rm_wire::soap11::decode11;
 use std::alloc::Global;
 use wsa_headers::Addressing;
 

@@ -10,7 +10,7 @@ use node_laws::laws::{
     each_message_keeps_the_rules, there_are_own_terms, what_waits_keeps_the_rules,
 };
 use node_store::laws::a_journal_ends_with_its_batches;
-use read_laws::laws::{a_refusal_may_be_answered, what_is_read_may_be_written};
+use rm_wire::read_laws::laws::{a_refusal_may_be_answered, what_is_read_may_be_written};
 use rm_base::Memory;
 use rm_disk::CrashDisk;
 use rm_node::Call;

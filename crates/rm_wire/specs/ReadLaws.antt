@@ -1,0 +1,3 @@
+-- The definitions of `read_laws`.
+pub mod Stands
+pub mod WasRead

@@ -1,0 +1,4 @@
+-- The definitions of `soap11`.
+pub mod Lift
+pub mod Lower
+pub mod Spells11
