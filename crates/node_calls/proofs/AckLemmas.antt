@@ -6,10 +6,10 @@ use Rattle.rm_message.specs.declared.elements.header.AckKind.TheVariants as kind
 use Rattle.rm_message.specs.declared.message.Message.{Message}
 use Rattle.wsa_headers.specs.declared.endpoint.Epr.{Epr}
 use Rattle.record_batch.specs.Fact.{Fact}
-use Rattle.sequence_table.specs.Words.{Text}
-use Rattle.sequence_table.specs.Idents.{issue}
-use Rattle.sequence_table.specs.Makers.{number}
-use Rattle.sequence_table.specs.Find.{acks_to}
+use Rattle.record_batch.specs.Sequences.Words.{Text}
+use Rattle.record_batch.specs.Sequences.Idents.{issue}
+use Rattle.record_batch.specs.Sequences.Makers.{number}
+use Rattle.record_batch.specs.Sequences.Find.{acks_to}
 use Rattle.rm_protocol.specs.Addresses.{is_anonymous}
 use Rattle.rm_protocol.specs.Calls.{final_ack, missing_of, nack_by, nack_to}
 use Rattle.rm_protocol.specs.Messages.{ack_message, block_of}

@@ -4,14 +4,14 @@ use Rattle.std.proofs.Common.{Some, None}
 use Rattle.std.specs.Option.{option_to_list}
 use Rattle.rm_message.specs.declared.message.Message.{Message}
 use Rattle.record_batch.specs.Fact.{Fact}
-use Rattle.sequence_table.specs.Makers.{Maker, maker}
-use Rattle.sequence_table.specs.Sources.{out_ident, phase}
-use Rattle.sequence_table.specs.Destinations.{is_over}
-use Rattle.sequence_table.specs.Find.{peer}
+use Rattle.record_batch.specs.Sequences.Makers.{Maker, maker}
+use Rattle.record_batch.specs.Sequences.Sources.{out_ident, phase}
+use Rattle.record_batch.specs.Sequences.Destinations.{is_over}
+use Rattle.record_batch.specs.Sequences.Find.{peer}
 use Rattle.rm_protocol.specs.Calls.{Answer, Cause, NotOpen, adds, ask_out, ask_to, made_by, may_end, nack_by, nack_in}
 use Rattle.rm_protocol.specs.Calls.{on_outgoing, refusal}
 use Rattle.rm_protocol.specs.Polls.{make_message, poll}
-use Rattle.sequence_table.specs.Words.{Text}
+use Rattle.record_batch.specs.Sequences.Words.{Text}
 use Rattle.tables_ahead.specs.Known.{KnownRecords, all_records}
 use Rattle.node_calls.specs.Causes.{side_cause, unless_refused}
 use Rattle.node_calls.specs.Comes.{done}

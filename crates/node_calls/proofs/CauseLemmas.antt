@@ -8,9 +8,9 @@ use Rattle.std.proofs.lemmas.Bool.Decides.{nat_tests}
 use Rattle.rm_base.specs.Limits.{most_sequences, most_unacked, payload_bytes, window}
 use Rattle.rm_base.specs.Message.{max_number}
 use Rattle.record_batch.specs.Fact.{Fact}
-use Rattle.sequence_table.specs.Words.{Text}
-use Rattle.sequence_table.specs.Makers.{Maker, Outgoing, Offered, Incoming, Taken, maker}
-use Rattle.sequence_table.specs.Sources.{accepted_count, all_unacked, phase, unacked}
+use Rattle.record_batch.specs.Sequences.Words.{Text}
+use Rattle.record_batch.specs.Sequences.Makers.{Maker, Outgoing, Offered, Incoming, Taken, maker}
+use Rattle.record_batch.specs.Sequences.Sources.{accepted_count, all_unacked, phase, unacked}
 use Rattle.rm_protocol.specs.Calls.{Answer, Cause, PayloadTooLong, BadPayload, NotOpen, WindowFull, NodeFull, Rollover}
 use Rattle.rm_protocol.specs.Calls.{if_room, is_open, on_outgoing, refusal, send, send_out}
 use Rattle.rm_protocol.specs.Terms.{Terms}

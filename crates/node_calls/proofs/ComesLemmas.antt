@@ -7,11 +7,11 @@ use Rattle.rm_message.specs.declared.elements.lifecycle.Lifecycle.TheVariants as
 use Rattle.rm_message.specs.declared.message.Message.{Message}
 use Rattle.record_batch.specs.declared.record.OwnOffer.{OwnOffer}
 use Rattle.record_batch.specs.Fact.{Fact, Creating, Accepted, Closing, Ending}
-use Rattle.sequence_table.specs.Words.{Text, last_or}
-use Rattle.sequence_table.specs.Makers.{counter, makers}
-use Rattle.sequence_table.specs.Sources.{accepted_count, out_ident, payload_at, tickets}
-use Rattle.sequence_table.specs.Find.{peer}
-use Rattle.sequence_table.specs.Fits.{all_fit}
+use Rattle.record_batch.specs.Sequences.Words.{Text, last_or}
+use Rattle.record_batch.specs.Sequences.Makers.{counter, makers}
+use Rattle.record_batch.specs.Sequences.Sources.{accepted_count, out_ident, payload_at, tickets}
+use Rattle.record_batch.specs.Sequences.Find.{peer}
+use Rattle.record_batch.specs.Sequences.Fits.{all_fit}
 use Rattle.rm_protocol.specs.Calls.{Wish, adds, offer_of}
 use Rattle.rm_protocol.specs.Messages.{finish_request, request_at}
 use Rattle.node_messages.specs.Requests.{create_with}

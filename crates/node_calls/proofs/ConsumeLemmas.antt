@@ -7,9 +7,9 @@ use Rattle.node_laws.specs.Sizes.Size.{batch_size}
 use Rattle.record_batch.specs.Batch.{batch_text}
 use Rattle.record_batch.specs.Fact.{Fact, Consumed}
 use Rattle.rm_sides.specs.Destination.Incoming.{Receiving}
-use Rattle.sequence_table.specs.Destinations.{cursor, inbox}
-use Rattle.sequence_table.specs.Makers.{Maker, Incoming, Offered}
-use Rattle.sequence_table.specs.Told.{receiving}
+use Rattle.record_batch.specs.Sequences.Destinations.{cursor, inbox}
+use Rattle.record_batch.specs.Sequences.Makers.{Maker, Incoming, Offered}
+use Rattle.record_batch.specs.Sequences.Told.{receiving}
 use Rattle.node_tables.specs.Reads.{incoming_of}
 use Rattle.rm_protocol.specs.Calls.{PastInbox, consume_in, cursor_to, if_room, refusal}
 use Rattle.rm_protocol.specs.Terms.{Terms}

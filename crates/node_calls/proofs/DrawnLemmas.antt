@@ -7,11 +7,11 @@ use Rattle.std.specs.List.{AllByRecursion}
 use Rattle.std.proofs.lemmas.Bool.{and_parts, eqb-true, ne_eqb}
 use Rattle.rm_base.specs.Numbered.{numbered}
 use Rattle.record_batch.specs.Fact.{Fact, Creating, Granted}
-use Rattle.sequence_table.specs.Makers.{Maker, Outgoing, Offered, Incoming, Taken, makers, makers_of, maker}
-use Rattle.sequence_table.specs.Makers.{counter}
-use Rattle.sequence_table.specs.Makers.{draws_of}
-use Rattle.sequence_table.specs.Fits.{fits, all_fit, offer_fits}
-use Rattle.sequence_table.specs.NodeLemmas.{one_more}
+use Rattle.record_batch.specs.Sequences.Makers.{Maker, Outgoing, Offered, Incoming, Taken, makers, makers_of, maker}
+use Rattle.record_batch.specs.Sequences.Makers.{counter}
+use Rattle.record_batch.specs.Sequences.Makers.{draws_of}
+use Rattle.record_batch.specs.Sequences.Fits.{fits, all_fit, offer_fits}
+use Rattle.record_batch.specs.Sequences.NodeLemmas.{one_more}
 
 -- the item with the number behind n
 pub numbered-next : {A : Type 0} (xs : List A) (n : ℕ) → numbered xs (n + 1) ≡ slice_get xs n

@@ -7,13 +7,14 @@ use Rattle.std.proofs.lemmas.Grind.{flat_map-append}
 use Rattle.rm_base.specs.Numbered.{numbered}
 use Rattle.rm_base.specs.declared.message.Cause.TheVariants.{Expired}
 use Rattle.record_batch.specs.Fact.{Fact, Ended}
-use Rattle.sequence_table.specs.Words.{at_seq, last_or}
-use Rattle.sequence_table.specs.Makers.{Maker, Outgoing, Offered, Incoming, Taken, makers, makers_of, maker}
-use Rattle.sequence_table.specs.Sources.{accepted, accepted_of, dropped, dropped_of, out_ident, phase, ticket_of}
-use Rattle.sequence_table.specs.Sources.{tickets}
-use Rattle.sequence_table.specs.Find.{peer}
+use Rattle.record_batch.specs.Sequences.Words.{at_seq, last_or}
+use Rattle.record_batch.specs.Sequences.Makers.{Maker, Outgoing, Offered, Incoming, Taken, makers, makers_of, maker}
+use Rattle.record_batch.specs.Sequences.Sources.{accepted, accepted_of, dropped, dropped_of, out_ident, phase}
+use Rattle.record_batch.specs.Sequences.Sources.{ticket_of}
+use Rattle.record_batch.specs.Sequences.Sources.{tickets}
+use Rattle.record_batch.specs.Sequences.Find.{peer}
 use Rattle.rm_sides.specs.Destination.Incoming.{is_past}
-use Rattle.sequence_table.specs.Destinations.{deadline_of, has_end, is_over}
+use Rattle.record_batch.specs.Sequences.Destinations.{deadline_of, has_end, is_over}
 use Rattle.rm_message.specs.declared.message.Message.{Message}
 use Rattle.rm_protocol.specs.Calls.{Answer, Done, NotOpen, adds, ask_ack, ask_out, ask_to, expired_from, made_by}
 use Rattle.rm_protocol.specs.Calls.{may_end}

@@ -6,10 +6,10 @@ use Rattle.std.specs.List.{AllByRecursion}
 use Rattle.std.proofs.lemmas.Bool.{and_parts, leb-true}
 use Rattle.rm_base.specs.Numbered.{numbered}
 use Rattle.record_batch.specs.Fact.{Fact, Made}
-use Rattle.sequence_table.specs.Words.{Text, last_or}
-use Rattle.sequence_table.specs.Makers.{Maker, Outgoing, Offered, Incoming, Taken, counter, maker, number}
-use Rattle.sequence_table.specs.Sources.{out_ident, payload_at, phase, tickets}
-use Rattle.sequence_table.specs.Fits.{is_outgoing_side, fits, all_fit}
+use Rattle.record_batch.specs.Sequences.Words.{Text, last_or}
+use Rattle.record_batch.specs.Sequences.Makers.{Maker, Outgoing, Offered, Incoming, Taken, counter, maker, number}
+use Rattle.record_batch.specs.Sequences.Sources.{out_ident, payload_at, phase, tickets}
+use Rattle.record_batch.specs.Sequences.Fits.{is_outgoing_side, fits, all_fit}
 use Rattle.rm_protocol.specs.Calls.{message_at}
 use Rattle.rm_protocol.specs.Messages.{create_request, data_at, data_by, finish_request, offer_by, request_at}
 use Rattle.rm_protocol.specs.Messages.{request_by}
@@ -25,10 +25,10 @@ use Rattle.rm_message.specs.declared.message.Message.{Message}
 use Rattle.record_batch.specs.declared.record.OwnOffer.{OwnOffer}
 use Rattle.record_batch.specs.declared.record.Via.{Via}
 use Rattle.node_messages.specs.Requests.{IsSmall, create_with, offer_with}
-use Rattle.sequence_table.specs.Find.{peer, peer_of}
+use Rattle.record_batch.specs.Sequences.Find.{peer, peer_of}
 use Rattle.node_tables.specs.Reads.{outgoing_in, outgoing_of, ticket_in, ticket_of}
 use Rattle.rm_sides.specs.Source.Outgoing.{Sending, payload_at as payload_known}
-use Rattle.sequence_table.specs.Told.{first_ticket, last_onto, sending}
+use Rattle.record_batch.specs.Sequences.Told.{first_ticket, last_onto, sending}
 use Rattle.node_calls.specs.Records.{IsEnding, is_finishing}
 use Rattle.node_calls.proofs.DrawnLemmas.{drawn_for, maker-drawn}
 use Rattle.node_calls.proofs.EndLemmas.{accepted-ends, dropped-ends, maker-ends, tickets-ends}

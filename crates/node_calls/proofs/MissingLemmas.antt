@@ -9,9 +9,9 @@ use Rattle.rm_base.specs.NumberSet.{Rises, has_number, greatest_of as greatest_n
 use Rattle.rm_base.specs.declared.failures.Memory.{Memory}
 use Rattle.record_batch.specs.Fact.{Fact}
 use Rattle.rm_sides.specs.Destination.Messages.{ranges_onto}
-use Rattle.sequence_table.specs.Destinations.{held}
-use Rattle.sequence_table.specs.Fits.{is_incoming_side}
-use Rattle.sequence_table.specs.Makers.{Maker, Offered, Incoming, maker}
+use Rattle.record_batch.specs.Sequences.Destinations.{held}
+use Rattle.record_batch.specs.Sequences.Fits.{is_incoming_side}
+use Rattle.record_batch.specs.Sequences.Makers.{Maker, Offered, Incoming, maker}
 use Rattle.rm_protocol.specs.Calls.{missing_of, most_missing}
 use Rattle.rm_protocol.specs.Waiting.{numbers_from}
 use Rattle.node_tables.specs.Reads.{incoming_in, incoming_of}

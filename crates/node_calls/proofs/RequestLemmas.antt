@@ -15,17 +15,17 @@ use Rattle.rm_sides.specs.Source.Outgoing.{Sending}
 use Rattle.record_batch.specs.declared.record.OwnOffer.{OwnOffer}
 use Rattle.record_batch.specs.declared.record.Via.{Via}
 use Rattle.record_batch.specs.Fact.{Fact, Creating, Accepted, Closing, Ending}
-use Rattle.sequence_table.specs.Words.{Text, at_seq, last_or}
-use Rattle.sequence_table.specs.Makers.{Outgoing, makers, makers_of, maker}
-use Rattle.sequence_table.specs.Sources.{accepted, accepted_count, accepted_of, dropped, first_phase, mark_of}
-use Rattle.sequence_table.specs.Sources.{marks, out_ident, payload_at, phase, ticket_of, tickets}
-use Rattle.sequence_table.specs.Find.{peer, plain_endpoint}
-use Rattle.sequence_table.specs.Fits.{all_fit}
-use Rattle.sequence_table.specs.GatherLemmas.{at_seq-more, flat_map-more, last_or-append}
-use Rattle.sequence_table.specs.NameLemmas.{NamesUpTo, names-fit, names-more, unnamed_ident}
-use Rattle.sequence_table.specs.NodeLemmas.{one_more}
-use Rattle.sequence_table.specs.PhaseLemmas.{out_ident-more}
-use Rattle.sequence_table.specs.ToldLemmas.{sending-unnamed}
+use Rattle.record_batch.specs.Sequences.Words.{Text, at_seq, last_or}
+use Rattle.record_batch.specs.Sequences.Makers.{Outgoing, makers, makers_of, maker}
+use Rattle.record_batch.specs.Sequences.Sources.{accepted, accepted_count, accepted_of, dropped, first_phase, mark_of}
+use Rattle.record_batch.specs.Sequences.Sources.{marks, out_ident, payload_at, phase, ticket_of, tickets}
+use Rattle.record_batch.specs.Sequences.Find.{peer, plain_endpoint}
+use Rattle.record_batch.specs.Sequences.Fits.{all_fit}
+use Rattle.record_batch.specs.Sequences.GatherLemmas.{at_seq-more, flat_map-more, last_or-append}
+use Rattle.record_batch.specs.Sequences.NameLemmas.{NamesUpTo, names-fit, names-more, unnamed_ident}
+use Rattle.record_batch.specs.Sequences.NodeLemmas.{one_more}
+use Rattle.record_batch.specs.Sequences.PhaseLemmas.{out_ident-more}
+use Rattle.record_batch.specs.Sequences.ToldLemmas.{sending-unnamed}
 use Rattle.rm_message.specs.declared.message.Message.{Message}
 use Rattle.rm_protocol.specs.Addresses.{own_address}
 use Rattle.rm_protocol.specs.Messages.{create_request, finish_request, offer_by, request_at, request_by, request_of}

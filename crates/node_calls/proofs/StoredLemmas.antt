@@ -7,7 +7,7 @@ use Rattle.node_laws.specs.Sizes.Room.{HasRoom}
 use Rattle.node_laws.specs.Sizes.Typed.{IsTyped}
 use Rattle.record_batch.specs.Fact.{Fact, fact_of}
 use Rattle.rm_protocol.specs.Calls.{Answer}
-use Rattle.sequence_table.specs.Fits.{all_fit}
+use Rattle.record_batch.specs.Sequences.Fits.{all_fit}
 use Rattle.node_laws.specs.Answers.Answers.{MayBeStored, seen}
 use Rattle.node_laws.specs.declared.answers.answer.Answer.{Answer as Given}
 

@@ -6,9 +6,9 @@ use Rattle.std.proofs.lemmas.List.{at_drop_more}
 use Rattle.std.proofs.lemmas.Option.{slice_get-get_or}
 use Rattle.rm_base.specs.declared.message.Cause.TheVariants.{Expired}
 use Rattle.record_batch.specs.Fact.{Fact, Ended}
-use Rattle.sequence_table.specs.Makers.{Maker, makers, maker}
+use Rattle.record_batch.specs.Sequences.Makers.{Maker, makers, maker}
 use Rattle.rm_sides.specs.Destination.Incoming.{is_past}
-use Rattle.sequence_table.specs.Destinations.{deadline_of, has_end}
+use Rattle.record_batch.specs.Sequences.Destinations.{deadline_of, has_end}
 use Rattle.rm_protocol.specs.Calls.{expired_from}
 use Rattle.node_calls.specs.Comes.{ending_if}
 use Rattle.node_tables.specs.Kept.{no_maker}

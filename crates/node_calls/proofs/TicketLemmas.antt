@@ -6,14 +6,14 @@ use Rattle.std.proofs.lemmas.Bool.{and_parts, eqb-true}
 use Rattle.rm_sides.specs.declared.source.phase.OutPhase.{OutPhase}
 use Rattle.rm_sides.specs.declared.source.phase.OutPhase.TheVariants as out
 use Rattle.record_batch.specs.Fact.{Fact, Closing, ClosedOut, Ending, EndedOut, Failed}
-use Rattle.sequence_table.specs.Words.{Text, at_seq, last_or}
-use Rattle.sequence_table.specs.Makers.{Maker, counter, draws_of, maker}
-use Rattle.sequence_table.specs.Sources.{first_phase, mark_of, marks, out_ident, phase, ticket_of, tickets}
-use Rattle.sequence_table.specs.Find.{peer, peer_of}
-use Rattle.sequence_table.specs.Fits.{fits, follows_at, all_fit}
-use Rattle.sequence_table.specs.Told.{first_ticket, last_onto}
-use Rattle.sequence_table.specs.GatherLemmas.{at_seq-append, flat_map-more}
-use Rattle.sequence_table.specs.NodeLemmas.{one_more}
+use Rattle.record_batch.specs.Sequences.Words.{Text, at_seq, last_or}
+use Rattle.record_batch.specs.Sequences.Makers.{Maker, counter, draws_of, maker}
+use Rattle.record_batch.specs.Sequences.Sources.{first_phase, mark_of, marks, out_ident, phase, ticket_of, tickets}
+use Rattle.record_batch.specs.Sequences.Find.{peer, peer_of}
+use Rattle.record_batch.specs.Sequences.Fits.{fits, follows_at, all_fit}
+use Rattle.record_batch.specs.Sequences.Told.{first_ticket, last_onto}
+use Rattle.record_batch.specs.Sequences.GatherLemmas.{at_seq-append, flat_map-more}
+use Rattle.record_batch.specs.Sequences.NodeLemmas.{one_more}
 use Rattle.node_tables.specs.Reads.{ticket_in, ticket_of as ticket_for}
 use Rattle.node_calls.specs.Records.{is_finishing}
 use Rattle.node_calls.proofs.DrawnLemmas.{All-append, All-weaker}

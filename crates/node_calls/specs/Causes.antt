@@ -4,10 +4,10 @@ use Rattle.std.specs.Option.{option_or}
 use Rattle.rm_base.specs.Limits as limits
 use Rattle.rm_base.specs.Message.{max_number}
 use Rattle.record_batch.specs.Fact.{Fact}
-use Rattle.sequence_table.specs.Words.{Text}
-use Rattle.sequence_table.specs.Makers.{Maker, Outgoing, Taken, maker}
-use Rattle.sequence_table.specs.Sources.{accepted_count, all_unacked, phase, unacked}
-use Rattle.sequence_table.specs.Destinations.{inbox}
+use Rattle.record_batch.specs.Sequences.Words.{Text}
+use Rattle.record_batch.specs.Sequences.Makers.{Maker, Outgoing, Taken, maker}
+use Rattle.record_batch.specs.Sequences.Sources.{accepted_count, all_unacked, phase, unacked}
+use Rattle.record_batch.specs.Sequences.Destinations.{inbox}
 use Rattle.rm_protocol.specs.Calls.{Answer, Cause, NoSequence, WrongSide, PayloadTooLong, BadPayload, NotOpen}
 use Rattle.rm_protocol.specs.Calls.{WindowFull, NodeFull, Rollover, PastInbox, is_open, refusal}
 use Rattle.rm_protocol.specs.Terms.{Terms}

@@ -4,9 +4,9 @@ use Rattle.std.specs.Option.{option_to_list}
 use Rattle.rm_base.specs.declared.message.Cause.TheVariants.{Operator, Expired}
 use Rattle.rm_message.specs.declared.message.Message.{Message}
 use Rattle.record_batch.specs.Fact.{Fact, Creating, Accepted, Closing, Closed, Ending, Ended}
-use Rattle.sequence_table.specs.Words.{Text}
-use Rattle.sequence_table.specs.Makers.{counter, maker, makers}
-use Rattle.sequence_table.specs.Sources.{accepted_count}
+use Rattle.record_batch.specs.Sequences.Words.{Text}
+use Rattle.record_batch.specs.Sequences.Makers.{counter, maker, makers}
+use Rattle.record_batch.specs.Sequences.Sources.{accepted_count}
 use Rattle.rm_protocol.specs.Calls.{Answer, Done, Wish, adds, cursor_to, final_ack, made_by, offer_of}
 use Rattle.rm_protocol.specs.Messages.{data_at, request_at}
 use Rattle.rm_protocol.specs.Terms.{Terms}

@@ -3,10 +3,10 @@ ghost use Rattle.std.specs.Prelude.{◌≡◌, ℕ, ◌<◌, ◌^◌, ◌++◌, 
 ghost use Rattle.std.specs.Option.{option_map, option_to_list};
 ghost use Rattle.rm_protocol.specs.Calls.{final_ack as final_ack_of, made_by};
 ghost use Rattle.rm_protocol.specs.Said.{ack_to, own_messages};
-ghost use Rattle.sequence_table.specs.Find.{acks_to as acks_to_of};
-ghost use Rattle.sequence_table.specs.Fits.{all_fit};
-ghost use Rattle.sequence_table.specs.Makers.{counter, maker};
-ghost use Rattle.sequence_table.specs.Words.{Text};
+ghost use Rattle.record_batch.specs.Sequences.Find.{acks_to as acks_to_of};
+ghost use Rattle.record_batch.specs.Sequences.Fits.{all_fit};
+ghost use Rattle.record_batch.specs.Sequences.Makers.{counter, maker};
+ghost use Rattle.record_batch.specs.Sequences.Words.{Text};
 ghost use Rattle.tables_ahead.specs.Known.{all_records};
 
 use node_messages::{ack_message, is_anonymous};
@@ -15,7 +15,7 @@ use receive_replies::{acks_to, block_of};
 use rm_base::Memory;
 use rm_message::elements::AckBlock;
 use rm_message::{Acks, Message};
-use sequence_table::issue;
+use record_batch::sequences::issue;
 use std::alloc::Global;
 use tables_ahead::Known;
 

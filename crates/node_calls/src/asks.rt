@@ -2,8 +2,8 @@
 ghost use Rattle.std.specs.Prelude.{◌≡◌, ◌++◌, IfOk};
 ghost use Rattle.std.specs.Option.{option_to_list};
 ghost use Rattle.rm_protocol.specs.Calls.{ask_ack as ask_ack_of, ask_out as ask_out_of, ask_to};
-ghost use Rattle.sequence_table.specs.Find.{peer as peer_in};
-ghost use Rattle.sequence_table.specs.Sources.{out_ident};
+ghost use Rattle.record_batch.specs.Sequences.Find.{peer as peer_in};
+ghost use Rattle.record_batch.specs.Sequences.Sources.{out_ident};
 ghost use Rattle.node_laws.specs.Answers.Answers.{seen};
 ghost use Rattle.tables_ahead.specs.Known.{all_records};
 

@@ -12,8 +12,8 @@ ghost use Rattle.rm_protocol.specs.Calls.{
   end as end_of,
 };
 ghost use Rattle.rm_protocol.specs.Terms.{Terms};
-ghost use Rattle.sequence_table.specs.Fits.{fits, is_incoming_side};
-ghost use Rattle.sequence_table.specs.Makers.{maker};
+ghost use Rattle.record_batch.specs.Sequences.Fits.{fits, is_incoming_side};
+ghost use Rattle.record_batch.specs.Sequences.Makers.{maker};
 ghost use Rattle.node_laws.specs.OwnTerms.{AreOwn};
 ghost use Rattle.node_laws.specs.Answers.Answers.{seen};
 ghost use Rattle.node_calls.specs.Comes.{closed as closed_of, closing as closing_of, ending as ending_of};

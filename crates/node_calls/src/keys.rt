@@ -15,11 +15,11 @@ ghost use Rattle.rm_protocol.specs.Messages.{
   request_by as request_in,
 };
 ghost use Rattle.node_messages.specs.Requests.{IsSmall, offer_with};
-ghost use Rattle.sequence_table.specs.Find.{peer as peer_in};
-ghost use Rattle.sequence_table.specs.Fits.{is_outgoing_side};
-ghost use Rattle.sequence_table.specs.Makers.{counter, maker};
-ghost use Rattle.sequence_table.specs.Sources.{payload_at as payload_at_number, phase as phase_in, tickets};
-ghost use Rattle.sequence_table.specs.Words.{last_or};
+ghost use Rattle.record_batch.specs.Sequences.Find.{peer as peer_in};
+ghost use Rattle.record_batch.specs.Sequences.Fits.{is_outgoing_side};
+ghost use Rattle.record_batch.specs.Sequences.Makers.{counter, maker};
+ghost use Rattle.record_batch.specs.Sequences.Sources.{payload_at as payload_at_number, phase as phase_in, tickets};
+ghost use Rattle.record_batch.specs.Sequences.Words.{last_or};
 ghost use Rattle.node_calls.specs.Records.{IsEnding, IsServing, is_finishing};
 ghost use Rattle.tables_ahead.specs.Known.{all_records};
 

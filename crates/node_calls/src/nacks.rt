@@ -8,8 +8,8 @@ ghost use Rattle.rm_protocol.specs.Calls.{
   nack_in as nack_in_of,
   nack_missing as nack_missing_of,
 };
-ghost use Rattle.sequence_table.specs.Fits.{is_incoming_side};
-ghost use Rattle.sequence_table.specs.Makers.{maker};
+ghost use Rattle.record_batch.specs.Sequences.Fits.{is_incoming_side};
+ghost use Rattle.record_batch.specs.Sequences.Makers.{maker};
 ghost use Rattle.node_laws.specs.Answers.Answers.{seen};
 ghost use Rattle.node_calls.specs.Records.{IsServing};
 ghost use Rattle.tables_ahead.specs.Known.{all_records};
@@ -23,7 +23,7 @@ use node_tables::{Maker, Tables};
 use rm_base::{Memory, Numbers};
 use rm_message::elements::{AckBlock, AckKind};
 use rm_message::Message;
-use sequence_table::issue;
+use record_batch::sequences::issue;
 use std::alloc::Global;
 use tables_ahead::Known;
 

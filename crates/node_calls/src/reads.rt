@@ -2,9 +2,9 @@
 ghost use Rattle.std.specs.Prelude.{◌≡◌, ◌<◌, ◌≤◌, ◌++◌, [], length};
 ghost use Rattle.std.specs.Option.{option_map};
 ghost use Rattle.rm_protocol.specs.Calls.{is_open as is_open_in, may_end as may_end_in};
-ghost use Rattle.sequence_table.specs.Destinations.{is_over};
-ghost use Rattle.sequence_table.specs.Makers.{maker};
-ghost use Rattle.sequence_table.specs.Sources.{phase};
+ghost use Rattle.record_batch.specs.Sequences.Destinations.{is_over};
+ghost use Rattle.record_batch.specs.Sequences.Makers.{maker};
+ghost use Rattle.record_batch.specs.Sequences.Sources.{phase};
 ghost use Rattle.node_laws.specs.Answers.Answers.{cause_seen};
 ghost use Rattle.node_calls.specs.Causes.{side_cause};
 

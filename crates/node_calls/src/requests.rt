@@ -9,10 +9,10 @@ ghost use Rattle.rm_message.specs.declared.elements.lifecycle.Lifecycle.TheVaria
 ghost use Rattle.rm_protocol.specs.Calls.{create as create_of, offer_of, wanted as wanted_of};
 ghost use Rattle.rm_protocol.specs.Messages.{finish_request, via_of as via_for};
 ghost use Rattle.rm_protocol.specs.Terms.{Terms};
-ghost use Rattle.sequence_table.specs.Find.{peer as peer_in};
-ghost use Rattle.sequence_table.specs.Makers.{maker, makers, number};
-ghost use Rattle.sequence_table.specs.Sources.{out_ident, tickets};
-ghost use Rattle.sequence_table.specs.Words.{last_or};
+ghost use Rattle.record_batch.specs.Sequences.Find.{peer as peer_in};
+ghost use Rattle.record_batch.specs.Sequences.Makers.{maker, makers, number};
+ghost use Rattle.record_batch.specs.Sequences.Sources.{out_ident, tickets};
+ghost use Rattle.record_batch.specs.Sequences.Words.{last_or};
 ghost use Rattle.node_laws.specs.OwnTerms.{AreOwn};
 ghost use Rattle.node_laws.specs.Answers.Answers.{seen, wish_seen};
 ghost use Rattle.node_calls.specs.Comes.{asked as asked_of};

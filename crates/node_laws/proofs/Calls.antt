@@ -31,21 +31,21 @@ use Rattle.message_writer.specs.Faults.{fault_of}
 use Rattle.message_writer.specs.Rules.{KeepsRules}
 use Rattle.rm_wire.specs.Writable.{IsRefusalWritable}
 use Rattle.record_batch.specs.Fact.{Fact, Creating, Accepted, Closing, Closed, Ending, Ended, Consumed}
-use Rattle.sequence_table.specs.IdentTexts.{issue-text}
-use Rattle.sequence_table.specs.Words.{Text}
-use Rattle.sequence_table.specs.Idents.{issue}
-use Rattle.sequence_table.specs.Makers.{Maker, Outgoing, Offered, Incoming, Taken, makers, makers_of, maker}
-use Rattle.sequence_table.specs.Makers.{counter}
-use Rattle.sequence_table.specs.Makers.{number}
-use Rattle.sequence_table.specs.Sources.{accepted_count, out_ident, phase, unacked, all_unacked}
+use Rattle.record_batch.specs.Sequences.IdentTexts.{issue-text}
+use Rattle.record_batch.specs.Sequences.Words.{Text}
+use Rattle.record_batch.specs.Sequences.Idents.{issue}
+use Rattle.record_batch.specs.Sequences.Makers.{Maker, Outgoing, Offered, Incoming, Taken, makers, makers_of, maker}
+use Rattle.record_batch.specs.Sequences.Makers.{counter}
+use Rattle.record_batch.specs.Sequences.Makers.{number}
+use Rattle.record_batch.specs.Sequences.Sources.{accepted_count, out_ident, phase, unacked, all_unacked}
 use Rattle.rm_sides.specs.Destination.Incoming.{is_past}
-use Rattle.sequence_table.specs.Destinations.{cursor, has_end, inbox, is_over, deadline_of}
+use Rattle.record_batch.specs.Sequences.Destinations.{cursor, has_end, inbox, is_over, deadline_of}
 use Rattle.node_laws.proofs.Lists.{All-append}
 use Rattle.rm_protocol.specs.Calls.{adds_and_moves, message_at, messages_at, ticked}
 use Rattle.rm_protocol.specs.Waiting.{Moves, no_moves}
 use Rattle.timers.specs.declared.slots.timers.Key.{Key}
 use Rattle.timers.specs.Keys.Waits.{Wait, first_due}
-use Rattle.sequence_table.specs.Find.{find_incoming, acks_to, peer}
+use Rattle.record_batch.specs.Sequences.Find.{find_incoming, acks_to, peer}
 use Rattle.rm_protocol.specs.Calls.{Answer, Cause, NoSequence, WrongSide, NotOpen, PayloadTooLong, BadPayload}
 use Rattle.rm_protocol.specs.Calls.{WindowFull, NodeFull, missing_of}
 use Rattle.rm_protocol.specs.Calls.{Rollover, StoreFull, TooManySequences, refusal, adds, if_room, Wish, offer_of}

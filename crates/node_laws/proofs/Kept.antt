@@ -7,10 +7,10 @@ use Rattle.std.proofs.lemmas.Bool.{and_parts, eqb-true, le-leb, lt-ltb}
 use Rattle.rm_base.specs.Limits.{most_sequences, most_unacked, window}
 use Rattle.rm_sides.specs.Ranges.Laws.{RangeIsAdded}
 use Rattle.record_batch.specs.Fact.{Fact, Made, Accepted}
-use Rattle.sequence_table.specs.Makers.{makers, makers_of, maker}
-use Rattle.sequence_table.specs.Sources.{accepted_of, unacked, all_unacked}
-use Rattle.sequence_table.specs.Fits.{fits, all_fit, is_outgoing_side}
-use Rattle.sequence_table.specs.GatherLemmas.{flat_map-more}
+use Rattle.record_batch.specs.Sequences.Makers.{makers, makers_of, maker}
+use Rattle.record_batch.specs.Sequences.Sources.{accepted_of, unacked, all_unacked}
+use Rattle.record_batch.specs.Sequences.Fits.{fits, all_fit, is_outgoing_side}
+use Rattle.record_batch.specs.Sequences.GatherLemmas.{flat_map-more}
 use Rattle.node_laws.specs.Records.{KeepsLimits, HasValues, BeginsWithMade, IsKept, MadeIsKept}
 use Rattle.node_laws.proofs.Lists.{All-append, all_fit-append}
 use Rattle.node_laws.proofs.Near.{TakesNear, near-more, side-before}

@@ -8,8 +8,8 @@ use Rattle.std.specs.Option.{option_to_list}
 use Rattle.std.proofs.lemmas.Bool.{and_parts}
 use Rattle.rm_base.specs.Numbered.{numbered}
 use Rattle.record_batch.specs.Fact.{Fact}
-use Rattle.sequence_table.specs.Words.{at_seq, first_or}
-use Rattle.sequence_table.specs.Fits.{fits, all_fit}
+use Rattle.record_batch.specs.Sequences.Words.{at_seq, first_or}
+use Rattle.record_batch.specs.Sequences.Fits.{fits, all_fit}
 
 pub All-weaker : {A : Type 0} (P Q : A → Type 0) → ((x : A) → P x → Q x) → (xs : List A) → AllByRecursion P xs
     → AllByRecursion Q xs

@@ -36,12 +36,13 @@ use Rattle.message_writer.specs.Rules.{KeepsRules, action_for, protocol_actions,
 use Rattle.record_batch.specs.declared.record.Via.{Via}
 use Rattle.record_batch.specs.declared.record.Via.TheVariants.{Direct, Polled, Back}
 use Rattle.record_batch.specs.Fact.{Fact}
-use Rattle.sequence_table.specs.Words.{Text, last_or}
-use Rattle.sequence_table.specs.IdentTexts.{issue-text, polled-text}
-use Rattle.sequence_table.specs.Idents.{issue}
-use Rattle.sequence_table.specs.Makers.{Maker, Outgoing, Offered, maker, number}
-use Rattle.sequence_table.specs.Sources.{accepted, accepted_count, dropped, out_ident, payload_at, phase, tickets}
-use Rattle.sequence_table.specs.Find.{peer, plain_endpoint}
+use Rattle.record_batch.specs.Sequences.Words.{Text, last_or}
+use Rattle.record_batch.specs.Sequences.IdentTexts.{issue-text, polled-text}
+use Rattle.record_batch.specs.Sequences.Idents.{issue}
+use Rattle.record_batch.specs.Sequences.Makers.{Maker, Outgoing, Offered, maker, number}
+use Rattle.record_batch.specs.Sequences.Sources.{accepted, accepted_count, dropped, out_ident, payload_at, phase}
+use Rattle.record_batch.specs.Sequences.Sources.{tickets}
+use Rattle.record_batch.specs.Sequences.Find.{peer, plain_endpoint}
 use Rattle.rm_protocol.specs.Addresses.{rm_action, payload_action, anonymous, own_address, reply_to}
 use Rattle.rm_protocol.specs.FitInduction.{few-accepted}
 use Rattle.rm_protocol.specs.Messages.{written_scope, data_of, data_by, data_at, request_of, never, offer_by}

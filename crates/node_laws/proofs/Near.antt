@@ -15,12 +15,13 @@ use Rattle.rm_sides.specs.declared.ranges.range.Range.{Range}
 use Rattle.record_batch.specs.Fact.{Fact, Dropped, Purged, Received}
 use Rattle.rm_sides.specs.Destination.Messages.{gone_items, items_of, numbers_in, numbers_of, sorted_onto, there_items}
 use Rattle.rm_sides.specs.Destination.Messages.{with_message, without_gap}
-use Rattle.sequence_table.specs.Makers.{Maker, makers, makers_of, maker}
-use Rattle.sequence_table.specs.Destinations.{front, held, items, messages, purged, purged_of, received, received_of}
-use Rattle.sequence_table.specs.Sources.{dropped_of}
-use Rattle.sequence_table.specs.Fits.{fits, all_fit, is_incoming_side}
-use Rattle.sequence_table.specs.GatherLemmas.{flat_map-more}
-use Rattle.sequence_table.specs.NameLemmas.{names-fit, elsewhere_purged, elsewhere_received, unnamed}
+use Rattle.record_batch.specs.Sequences.Makers.{Maker, makers, makers_of, maker}
+use Rattle.record_batch.specs.Sequences.Destinations.{front, held, items, messages, purged, purged_of, received}
+use Rattle.record_batch.specs.Sequences.Destinations.{received_of}
+use Rattle.record_batch.specs.Sequences.Sources.{dropped_of}
+use Rattle.record_batch.specs.Sequences.Fits.{fits, all_fit, is_incoming_side}
+use Rattle.record_batch.specs.Sequences.GatherLemmas.{flat_map-more}
+use Rattle.record_batch.specs.Sequences.NameLemmas.{names-fit, elsewhere_purged, elsewhere_received, unnamed}
 
 -- ---- sequences that are there
 

@@ -13,7 +13,7 @@ use Rattle.rm_message.specs.declared.refusal.Refusal.{Refusal}
 use Rattle.message_writer.specs.Faults.{acks_of, fault_of}
 use Rattle.record_batch.specs.Batch.{batch_text}
 use Rattle.record_batch.specs.Fact.{Fact}
-use Rattle.sequence_table.specs.Makers.{counter}
+use Rattle.record_batch.specs.Sequences.Makers.{counter}
 use Rattle.rm_protocol.specs.Terms.{Terms, AreTerms, EndsLater, ReadsBack, IsFault, header_blocks}
 use Rattle.node_laws.specs.OwnTerms.{EndsAsTold, AreOwn}
 use Rattle.node_laws.proofs.Calendar.{has-deadline}

@@ -15,9 +15,9 @@ use Rattle.record_batch.specs.Fact.{Fact}
 use Rattle.rm_base.specs.Numbered.{numbered}
 use Rattle.rm_sides.specs.Ranges.Laws.{RangeIsAdded}
 use Rattle.rm_protocol.specs.Exact.{AckedWereAccepted}
-use Rattle.sequence_table.specs.Makers.{Maker, Outgoing, Offered, Incoming, Taken, makers, maker}
-use Rattle.sequence_table.specs.Sources.{accepted_count, acked, is_sending, unacked_at, unacked_from}
-use Rattle.sequence_table.specs.Told.{sending}
+use Rattle.record_batch.specs.Sequences.Makers.{Maker, Outgoing, Offered, Incoming, Taken, makers, maker}
+use Rattle.record_batch.specs.Sequences.Sources.{accepted_count, acked, is_sending, unacked_at, unacked_from}
+use Rattle.record_batch.specs.Sequences.Told.{sending}
 use Rattle.node_laws.specs.Records.{HasRoomForKeys}
 use Rattle.node_laws.proofs.Counts.{united-canonical}
 use Rattle.node_laws.proofs.Unacked.{acked-proper}

@@ -18,11 +18,11 @@ use Rattle.wsa_headers.specs.declared.addressing.Addressing.{Addressing}
 use Rattle.wsa_headers.specs.declared.endpoint.Epr.{Epr}
 use Rattle.message_writer.specs.Rules.{action_for, HasItsId}
 use Rattle.record_batch.specs.Fact.{Fact}
-use Rattle.sequence_table.specs.IdentTexts.{issue-text}
-use Rattle.sequence_table.specs.Words.{Text}
-use Rattle.sequence_table.specs.Idents.{issue}
-use Rattle.sequence_table.specs.Makers.{Maker, Incoming, maker, address, number}
-use Rattle.sequence_table.specs.Find.{acks_to, find_incoming, is_taken}
+use Rattle.record_batch.specs.Sequences.IdentTexts.{issue-text}
+use Rattle.record_batch.specs.Sequences.Words.{Text}
+use Rattle.record_batch.specs.Sequences.Idents.{issue}
+use Rattle.record_batch.specs.Sequences.Makers.{Maker, Incoming, maker, address, number}
+use Rattle.record_batch.specs.Sequences.Find.{acks_to, find_incoming, is_taken}
 use Rattle.rm_protocol.specs.Addresses.{anonymous, is_anonymous, reply_endpoint, reply_endpoint_by}
 use Rattle.rm_protocol.specs.Addresses.{fault_endpoint, fault_endpoint_by}
 use Rattle.rm_protocol.specs.Messages.{block_of, ack_message}

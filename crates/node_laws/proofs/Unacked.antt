@@ -12,17 +12,18 @@ use Rattle.rm_sides.specs.declared.source.phase.OutPhase.{OutPhase}
 use Rattle.rm_sides.specs.declared.source.phase.OutPhase.TheVariants as out
 use Rattle.record_batch.specs.Fact.{Fact, Creating, Created, Granted, Accepted, Acked, Closing, ClosedOut}
 use Rattle.record_batch.specs.Fact.{Dropped, Ending, EndedOut, Failed}
-use Rattle.sequence_table.specs.Words.{at_seq, last_or}
-use Rattle.sequence_table.specs.Makers.{Maker, Outgoing, Taken, makers, makers_of, maker}
-use Rattle.sequence_table.specs.Sources.{accepted, accepted_count, accepted_of, acked, acked_of, dropped_of, unacked}
-use Rattle.sequence_table.specs.Sources.{unacked_at, unacked_from}
-use Rattle.sequence_table.specs.Sources.{all_unacked, is_sending, phase, mark_of}
-use Rattle.sequence_table.specs.Fits.{fits, all_fit, follows, follows_at, is_outgoing_side}
-use Rattle.sequence_table.specs.Told.{opened_by}
-use Rattle.sequence_table.specs.GatherLemmas.{flat_map-more, united-append}
-use Rattle.sequence_table.specs.NameLemmas.{names-fit, elsewhere_accepted, elsewhere_dropped, unnamed}
-use Rattle.sequence_table.specs.PhaseLemmas.{created-creating, phase-more}
-use Rattle.record_snapshot.specs.SentLemmas.{count-more}
+use Rattle.record_batch.specs.Sequences.Words.{at_seq, last_or}
+use Rattle.record_batch.specs.Sequences.Makers.{Maker, Outgoing, Taken, makers, makers_of, maker}
+use Rattle.record_batch.specs.Sequences.Sources.{accepted, accepted_count, accepted_of, acked, acked_of, dropped_of}
+use Rattle.record_batch.specs.Sequences.Sources.{unacked}
+use Rattle.record_batch.specs.Sequences.Sources.{unacked_at, unacked_from}
+use Rattle.record_batch.specs.Sequences.Sources.{all_unacked, is_sending, phase, mark_of}
+use Rattle.record_batch.specs.Sequences.Fits.{fits, all_fit, follows, follows_at, is_outgoing_side}
+use Rattle.record_batch.specs.Sequences.Told.{opened_by}
+use Rattle.record_batch.specs.Sequences.GatherLemmas.{flat_map-more, united-append}
+use Rattle.record_batch.specs.Sequences.NameLemmas.{names-fit, elsewhere_accepted, elsewhere_dropped, unnamed}
+use Rattle.record_batch.specs.Sequences.PhaseLemmas.{created-creating, phase-more}
+use Rattle.record_batch.specs.Snapshot.SentLemmas.{count-more}
 use Rattle.rm_protocol.specs.FitInduction.{creating-accepts-none}
 use Rattle.node_laws.specs.Records.{HasValues, AreValues}
 use Rattle.rm_base.specs.Message.{max_number}

@@ -19,15 +19,17 @@ use Rattle.record_batch.specs.Fact.{Fact, Made, Creating, Created, Granted, Acce
 use Rattle.rm_sides.specs.Destination.Incoming.{is_loose}
 use Rattle.rm_sides.specs.Destination.ItemLemmas.{numbers_of-both}
 use Rattle.rm_sides.specs.Destination.Messages.{is_empty, numbers_in, numbers_of, ranges_onto, run_of}
-use Rattle.sequence_table.specs.Words.{Text, at_seq}
-use Rattle.sequence_table.specs.Makers.{Maker, Outgoing, Offered, Incoming, Taken, makers, makers_of, maker}
-use Rattle.sequence_table.specs.Makers.{address}
-use Rattle.sequence_table.specs.Makers.{created_of, created_from, created, ident_in}
-use Rattle.sequence_table.specs.Sources.{accepted, accepted_of, dropped, out_ident, payload_at}
-use Rattle.sequence_table.specs.Destinations.{behaviour, held, is_over, purged, purged_of, received, received_of}
-use Rattle.sequence_table.specs.Find.{plain_endpoint, peer_of, peer, accept_of, accepted_by, acks_to_of, acks_to}
-use Rattle.sequence_table.specs.Fits.{fits, all_fit, is_incoming_side, is_up_to, may_be_gone}
-use Rattle.sequence_table.specs.GatherLemmas.{flat_map-more}
+use Rattle.record_batch.specs.Sequences.Words.{Text, at_seq}
+use Rattle.record_batch.specs.Sequences.Makers.{Maker, Outgoing, Offered, Incoming, Taken, makers, makers_of, maker}
+use Rattle.record_batch.specs.Sequences.Makers.{address}
+use Rattle.record_batch.specs.Sequences.Makers.{created_of, created_from, created, ident_in}
+use Rattle.record_batch.specs.Sequences.Sources.{accepted, accepted_of, dropped, out_ident, payload_at}
+use Rattle.record_batch.specs.Sequences.Destinations.{behaviour, held, is_over, purged, purged_of, received}
+use Rattle.record_batch.specs.Sequences.Destinations.{received_of}
+use Rattle.record_batch.specs.Sequences.Find.{plain_endpoint, peer_of, peer, accept_of, accepted_by, acks_to_of}
+use Rattle.record_batch.specs.Sequences.Find.{acks_to}
+use Rattle.record_batch.specs.Sequences.Fits.{fits, all_fit, is_incoming_side, is_up_to, may_be_gone}
+use Rattle.record_batch.specs.Sequences.GatherLemmas.{flat_map-more}
 use Rattle.rm_protocol.specs.FitInduction.{fit-induction}
 use Rattle.rm_protocol.specs.Messages.{kind_of, block_of}
 use Rattle.rm_protocol.specs.Calls.{missing_of, most_missing}

@@ -13,7 +13,7 @@ use Rattle.message_reader.specs.Refusals.{Spells}
 use Rattle.message_writer.specs.Rules.{KeepsRules}
 use Rattle.message_writer.specs.Text.{message_text}
 use Rattle.record_batch.specs.Fact.{Fact}
-use Rattle.sequence_table.specs.Words.{Text}
+use Rattle.record_batch.specs.Sequences.Words.{Text}
 use Rattle.rm_protocol.specs.Calls.{Answer, Wish, create, send, close, end, tick, ask_ack, nack_missing, receive}
 use Rattle.rm_protocol.specs.Calls.{consume}
 use Rattle.rm_protocol.specs.Node.{fetched_message}

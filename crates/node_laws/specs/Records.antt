@@ -10,10 +10,10 @@ use Rattle.soap_document.specs.Profile.Payload.{IsClosedContent}
 use Rattle.wsa_headers.specs.Writable.{IsEprWritable}
 use Rattle.record_batch.specs.declared.record.PeerOffer.{PeerOffer}
 use Rattle.record_batch.specs.Fact.{Fact, Made, Creating, Created, Granted, Accepted, Acked}
-use Rattle.sequence_table.specs.Makers.{makers, maker}
-use Rattle.sequence_table.specs.Sources.{unacked, all_unacked}
-use Rattle.sequence_table.specs.Destinations.{held, front}
-use Rattle.sequence_table.specs.Fits.{all_fit, is_outgoing_side, is_incoming_side}
+use Rattle.record_batch.specs.Sequences.Makers.{makers, maker}
+use Rattle.record_batch.specs.Sequences.Sources.{unacked, all_unacked}
+use Rattle.record_batch.specs.Sequences.Destinations.{held, front}
+use Rattle.record_batch.specs.Sequences.Fits.{all_fit, is_outgoing_side, is_incoming_side}
 use Rattle.rm_protocol.specs.Waiting.{waiting_keys}
 
 -- ---- one record

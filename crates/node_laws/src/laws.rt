@@ -11,7 +11,7 @@ ghost use Rattle.node_laws.specs.Records.{HasRoomForKeys, MadeIsKept};
 use rm_sides::ranges::range_is_added;
 use rm_protocol::laws::{each_record_may_come_next, what_is_acknowledged_was_accepted};
 use rm_wire::laws::{a_fault_keeps_the_rules, what_is_written_is_read};
-use sequence_table::laws::a_byte_for_each_number;
+use record_batch::sequences::laws::a_byte_for_each_number;
 use soap_document::laws::{content_makes_a_document, document_is_read};
 
 /// Each call of a node keeps its records those of a node: what `mount` accepts before a call it accepts after it.

@@ -4,8 +4,8 @@ use Rattle.std.specs.Int.{w128, to_be_bytes}
 use Rattle.uuid.specs.Text.{lower, hyphenated_text}
 use Rattle.uuid.proofs.TextLemmas.{by_index_length}
 use Rattle.rm_base.specs.Text.{IsText}
-use Rattle.sequence_table.specs.IdentTexts.{marks-text}
-use Rattle.sequence_table.specs.Idents.{issue, polled_address, polled_prefix, upper_half, lower_half}
+use Rattle.record_batch.specs.Sequences.IdentTexts.{marks-text}
+use Rattle.record_batch.specs.Sequences.Idents.{issue, polled_address, polled_prefix, upper_half, lower_half}
 use Rattle.rm_protocol.specs.Addresses.{rm_action}
 use Rattle.node_messages.specs.declared.name.Name.{Name}
 use Rattle.node_messages.specs.declared.name.Name.TheVariants as named

@@ -1,7 +1,7 @@
 -- A node by its number and its address.
 use Rattle.std.specs.Prelude.{◌≡◌, List}
 use Rattle.record_batch.specs.Fact.{Fact}
-use Rattle.sequence_table.specs.Makers.{number, address}
+use Rattle.record_batch.specs.Sequences.Makers.{number, address}
 use Rattle.node_messages.specs.declared.home.Home.{Home}
 
 -- records give a node this number and this address

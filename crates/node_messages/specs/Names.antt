@@ -1,6 +1,6 @@
 -- The elements that messages of the protocol are for: WS-ReliableMessaging 1.2, sections 3.4 to 3.9.
 use Rattle.std.specs.Prelude.{codes}
-use Rattle.sequence_table.specs.Words.{Text}
+use Rattle.record_batch.specs.Sequences.Words.{Text}
 use Rattle.node_messages.specs.declared.name.Name.{Name}
 use Rattle.node_messages.specs.declared.name.Name.TheVariants as named
 

@@ -7,10 +7,10 @@ use Rattle.rm_message.specs.declared.message.Message.{Message}
 use Rattle.record_batch.specs.declared.record.OwnOffer.{OwnOffer}
 use Rattle.record_batch.specs.declared.record.Via.{Via}
 use Rattle.record_batch.specs.Fact.{Fact}
-use Rattle.sequence_table.specs.Find.{plain_endpoint}
-use Rattle.sequence_table.specs.Idents.{issue}
-use Rattle.sequence_table.specs.Makers.{number}
-use Rattle.sequence_table.specs.Words.{Text}
+use Rattle.record_batch.specs.Sequences.Find.{plain_endpoint}
+use Rattle.record_batch.specs.Sequences.Idents.{issue}
+use Rattle.record_batch.specs.Sequences.Makers.{number}
+use Rattle.record_batch.specs.Sequences.Words.{Text}
 use Rattle.rm_protocol.specs.Addresses.{own_address}
 use Rattle.rm_protocol.specs.Messages.{never, request_of}
 

@@ -9,7 +9,7 @@ ghost use Rattle.rm_protocol.specs.Addresses.{
   place_of as place_for,
 };
 ghost use Rattle.rm_base.specs.Text.{IsText};
-ghost use Rattle.sequence_table.specs.Idents.{polled_prefix};
+ghost use Rattle.record_batch.specs.Sequences.Idents.{polled_prefix};
 ghost use Rattle.node_messages.specs.Places.{place_seen};
 
 use wsa_headers::ANONYMOUS;
@@ -41,7 +41,7 @@ fn nowhere_bytes() -> &'static [u8]
 }
 
 /// What the addresses of nodes that nobody can reach begin with.
-#[tactic(auto, unfolding(sequence_table::specs::Idents::polled_prefix))]
+#[tactic(auto, unfolding(record_batch::specs::Sequences::Idents::polled_prefix))]
 pub(crate) fn polled_bytes() -> &'static [u8]
     ensures { result.now ≡ polled_prefix }
 {

@@ -6,7 +6,7 @@ ghost use Rattle.rm_protocol.specs.Addresses.{
   reply_endpoint as reply_endpoint_of,
   reply_endpoint_by,
 };
-ghost use Rattle.sequence_table.specs.Find.{plain_endpoint as plain_endpoint_of};
+ghost use Rattle.record_batch.specs.Sequences.Find.{plain_endpoint as plain_endpoint_of};
 
 use crate::address::anonymous_bytes;
 use rm_base::{Memory, Uri, uri_of};

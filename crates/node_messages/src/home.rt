@@ -2,15 +2,15 @@
 ghost use Rattle.std.specs.Prelude.{◌≡◌, ◌<◌, ◌≤◌, ◌^◌, List, length, drop, IfOk};
 ghost use Rattle.record_batch.specs.Fact.{Fact};
 ghost use Rattle.rm_protocol.specs.Addresses.{own_address as own_address_of, reply_to as reply_to_of};
-ghost use Rattle.sequence_table.specs.Find.{plain_endpoint as plain_endpoint_of};
-ghost use Rattle.sequence_table.specs.Idents.{polled_address as polled_address_of};
+ghost use Rattle.record_batch.specs.Sequences.Find.{plain_endpoint as plain_endpoint_of};
+ghost use Rattle.record_batch.specs.Sequences.Idents.{polled_address as polled_address_of};
 ghost use Rattle.node_messages.specs.Homes.{IsHome};
 
 use crate::address::polled_bytes;
 use crate::endpoint::{anonymous, plain_endpoint};
 use record_batch::Via;
 use rm_base::{Memory, Uri, uri_of};
-use sequence_table::issue;
+use record_batch::sequences::issue;
 use std::alloc::Global;
 use wsa_headers::Epr;
 

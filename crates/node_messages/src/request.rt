@@ -18,7 +18,7 @@ use record_batch::{OwnOffer, Via};
 use rm_base::{Ident, Lapse, Memory, Uri, uri_of};
 use rm_message::elements::{CreateSequence, Finish, Lifecycle, MakeConnection, Offer};
 use rm_message::{Body, Message, actions};
-use sequence_table::issue;
+use record_batch::sequences::issue;
 use std::alloc::Global;
 use wsa_headers::Epr;
 

@@ -5,9 +5,9 @@ ghost use Rattle.rm_message.specs.declared.elements.lifecycle.Lifecycle.TheVaria
 ghost use Rattle.rm_protocol.specs.Addresses.{reply_endpoint as reply_endpoint_of};
 ghost use Rattle.rm_protocol.specs.Messages.{response_of};
 ghost use Rattle.rm_protocol.specs.Said.{accept_by};
-ghost use Rattle.sequence_table.specs.Find.{plain_endpoint as plain_endpoint_of};
-ghost use Rattle.sequence_table.specs.Idents.{issue as issue_of};
-ghost use Rattle.sequence_table.specs.Makers.{number};
+ghost use Rattle.record_batch.specs.Sequences.Find.{plain_endpoint as plain_endpoint_of};
+ghost use Rattle.record_batch.specs.Sequences.Idents.{issue as issue_of};
+ghost use Rattle.record_batch.specs.Sequences.Makers.{number};
 ghost use Rattle.node_messages.specs.Homes.{IsHome};
 ghost use Rattle.node_messages.specs.Names.{name_text};
 
@@ -18,7 +18,7 @@ use crate::plain::plain;
 use rm_base::{Behaviour, Ident, Lapse, Memory, Uri, copy_optional_uri};
 use rm_message::elements::{AckBlock, CreateResponse, Lifecycle};
 use rm_message::{Acks, Body, Message};
-use sequence_table::issue;
+use record_batch::sequences::issue;
 use std::alloc::Global;
 use wsa_headers::{Addressing, Epr};
 

@@ -18,7 +18,7 @@ use Rattle.rm_disk.specs.ImageLemmas.{only_from, only_weaker}
 use Rattle.rm_disk.specs.Journal.Entries.{Bank, StandsAt, StandsForEither}
 use Rattle.rm_disk.specs.Journal.Journal.{Fits, with_entry}
 use Rattle.rm_disk.specs.Journal.JournalState.{JournalState, end_of, journal_of}
-use Rattle.sequence_table.specs.Makers.{counter, draws_of}
+use Rattle.record_batch.specs.Sequences.Makers.{counter, draws_of}
 use Rattle.rm_protocol.specs.Node.{records_in}
 use Rattle.node_laws.specs.Records.{BeginsWithMade, IsKept}
 use Rattle.rm_disk.specs.Told.{Told}

@@ -10,9 +10,9 @@ use Rattle.record_batch.specs.Batch.{batch_text}
 use Rattle.record_batch.specs.Fact.{Fact, Made, Creating, Created, Granted, Accepted, Acked, Received, Closing}
 use Rattle.record_batch.specs.Fact.{ClosedOut, Closed, Ending, EndedOut, Ended, Failed, Consumed, Dropped, Purged}
 use Rattle.record_batch.specs.Writable.{IsBatch, IsNumber32, IsWritable}
-use Rattle.record_snapshot.specs.EachLemmas.{each-acked, each-purged, keeps}
-use Rattle.record_snapshot.specs.GotLemmas.{purge-set}
-use Rattle.record_snapshot.specs.Snapshot.{left_acked, passed, snapshot}
+use Rattle.record_batch.specs.Snapshot.EachLemmas.{each-acked, each-purged, keeps}
+use Rattle.record_batch.specs.Snapshot.GotLemmas.{purge-set}
+use Rattle.record_batch.specs.Snapshot.Snapshot.{left_acked, passed, snapshot}
 use Rattle.rm_disk.specs.Call.{Call}
 use Rattle.rm_disk.specs.Journal.Entries.{AllFit, block}
 use Rattle.rm_disk.specs.Journal.EntryLemmas.{fit_rest}
@@ -23,8 +23,8 @@ use Rattle.rm_protocol.specs.Calls.{StoreFull}
 use Rattle.rm_protocol.specs.Compact.{fit_as_entries as fit_by, fits_before as before_by, list_size}
 use Rattle.rm_protocol.specs.Node.{Node, alone, end_of as end_of_batches, node_end, records_in}
 use Rattle.rm_protocol.specs.Terms.{Terms}
-use Rattle.sequence_table.specs.Fits.{all_fit, fits, follows_at}
-use Rattle.sequence_table.specs.Sources.{accepted_count}
+use Rattle.record_batch.specs.Sequences.Fits.{all_fit, fits, follows_at}
+use Rattle.record_batch.specs.Sequences.Sources.{accepted_count}
 use Rattle.node_laws.specs.OwnTerms.{AreOwn}
 use Rattle.node_laws.specs.Records.{AreValues, HasValues, IsKept}
 use Rattle.node_laws.specs.Snapshots.Kept.{SnapshotIsKept}

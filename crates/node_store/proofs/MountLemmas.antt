@@ -13,7 +13,7 @@ use Rattle.rm_disk.specs.declared.journal.error.JournalError.{JournalError}
 use Rattle.rm_disk.specs.declared.journal.error.JournalError.TheVariants.{Full}
 use Rattle.rm_disk.specs.Journal.JournalState.{JournalState, end_of, journal_of}
 use Rattle.rm_protocol.specs.Node.{records_in}
-use Rattle.sequence_table.specs.Makers.{counter}
+use Rattle.record_batch.specs.Sequences.Makers.{counter}
 use Rattle.node_laws.specs.Records.{AreValues, IsKept}
 use Rattle.node_store.specs.Has.{AreOfNode, entries_of, Has}
 use Rattle.node_store.specs.Imported.{Imports, IsTooLong, ServesAsBefore}

@@ -11,7 +11,7 @@ use Rattle.record_batch.specs.Batch.{batch_at, batch_text}
 use Rattle.record_batch.specs.Fact.{Fact}
 use Rattle.record_batch.specs.Writable.{IsBatch}
 use Rattle.rm_protocol.specs.Node.{records_in}
-use Rattle.sequence_table.specs.Fits.{all_fit, fits}
+use Rattle.record_batch.specs.Sequences.Fits.{all_fit, fits}
 use Rattle.node_laws.specs.Records.{KeepsLimits}
 use Rattle.node_tables.specs.Ready.{StopsAt}
 use Rattle.node_tables.specs.declared.error.TableError.{TableError}

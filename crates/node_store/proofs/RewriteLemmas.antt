@@ -9,7 +9,7 @@ use Rattle.std.proofs.lemmas.List.{map-append, take_more}
 use Rattle.std.proofs.lemmas.List.Folds.{list_all-append}
 use Rattle.record_batch.specs.Batch.{batch_text}
 use Rattle.record_batch.specs.Fact.{Fact, Made}
-use Rattle.record_snapshot.specs.Snapshot.{snapshot}
+use Rattle.record_batch.specs.Snapshot.Snapshot.{snapshot}
 use Rattle.rm_disk.specs.Call.{Call, crashes_of}
 use Rattle.rm_disk.specs.Fuse.{Burns}
 use Rattle.rm_disk.specs.Image.{OnlyLeaves}
@@ -23,7 +23,7 @@ use Rattle.rm_disk.specs.declared.journal.error.JournalError.{JournalError}
 use Rattle.rm_disk.specs.declared.journal.error.JournalError.TheVariants.{Full as AtEnd}
 use Rattle.rm_protocol.specs.AloneLemmas.{records-alone}
 use Rattle.rm_protocol.specs.Node.{alone}
-use Rattle.sequence_table.specs.Makers.{counter}
+use Rattle.record_batch.specs.Sequences.Makers.{counter}
 use Rattle.node_laws.specs.Records.{BeginsWithMade}
 use Rattle.node_store.specs.declared.error.RewriteError.{RewriteError}
 use Rattle.node_store.specs.declared.error.RewriteError.TheVariants.{Disk, Full, Memory}

@@ -14,11 +14,11 @@ use Rattle.rm_sides.specs.Destination.Incoming.{items, Receiving}
 use Rattle.rm_sides.specs.Destination.Laws.{FrontIsReached, IsFront}
 use Rattle.rm_sides.specs.Destination.Messages.{front_of, Item, numbers_of}
 use Rattle.record_batch.specs.Fact.{Fact, Made}
-use Rattle.sequence_table.specs.Fits.{all_fit, fits, is_incoming_side, is_outgoing_side}
-use Rattle.sequence_table.specs.Makers.{Maker, Outgoing, Offered, Incoming, Taken, maker, makers, nodes_of}
-use Rattle.sequence_table.specs.Makers.{number}
+use Rattle.record_batch.specs.Sequences.Fits.{all_fit, fits, is_incoming_side, is_outgoing_side}
+use Rattle.record_batch.specs.Sequences.Makers.{Maker, Outgoing, Offered, Incoming, Taken, maker, makers, nodes_of}
+use Rattle.record_batch.specs.Sequences.Makers.{number}
 use Rattle.rm_sides.specs.Destination.Messages.{is_empty}
-use Rattle.sequence_table.specs.Words.{first_or}
+use Rattle.record_batch.specs.Sequences.Words.{first_or}
 use Rattle.node_laws.specs.Records.{BeginsWithMade}
 use Rattle.node_tables.specs.Laws.{IncomingIsAsRecorded}
 use Rattle.node_tables.specs.Reads.{incoming_in, incoming_of}

@@ -9,10 +9,10 @@ use Rattle.record_batch.specs.Batch.{batch_text}
 use Rattle.record_batch.specs.Fact.{Fact}
 use Rattle.record_batch.specs.Writable.{IsBatch}
 use Rattle.rm_protocol.specs.Node.{records_in}
-use Rattle.sequence_table.specs.Destinations.{held, front}
-use Rattle.sequence_table.specs.Fits.{all_fit, is_incoming_side, is_outgoing_side}
-use Rattle.sequence_table.specs.Makers.{maker, makers}
-use Rattle.sequence_table.specs.Sources.{all_unacked, unacked}
+use Rattle.record_batch.specs.Sequences.Destinations.{held, front}
+use Rattle.record_batch.specs.Sequences.Fits.{all_fit, is_incoming_side, is_outgoing_side}
+use Rattle.record_batch.specs.Sequences.Makers.{maker, makers}
+use Rattle.record_batch.specs.Sequences.Sources.{all_unacked, unacked}
 use Rattle.node_laws.specs.Records.{KeepsLimits}
 use Rattle.node_store.specs.declared.error.MountError.{MountError}
 use Rattle.node_store.specs.declared.error.MountError.TheVariants as Variant

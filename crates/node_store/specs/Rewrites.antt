@@ -4,7 +4,7 @@ use Rattle.std.specs.Prelude.{is_none, List, length, Option, Some, None, Result,
 use Rattle.std.specs.List.{list_all}
 use Rattle.rm_base.specs.Limits as limits
 use Rattle.record_batch.specs.Fact.{Fact}
-use Rattle.record_snapshot.specs.Snapshot.{snapshot}
+use Rattle.record_batch.specs.Snapshot.Snapshot.{snapshot}
 use Rattle.rm_disk.specs.Call.{crashes_of}
 use Rattle.rm_disk.specs.Fuse.{Burns}
 use Rattle.rm_disk.specs.Image.{OnlyLeaves}

@@ -4,7 +4,7 @@ use Rattle.record_batch.specs.Batch.{batch_text}
 use Rattle.record_batch.specs.Fact.{Fact, Made}
 use Rattle.rm_disk.specs.Journal.Journal.{with_entry}
 use Rattle.rm_disk.specs.Journal.JournalState.{JournalState, end_of, journal_of}
-use Rattle.sequence_table.specs.Makers.{counter}
+use Rattle.record_batch.specs.Sequences.Makers.{counter}
 use Rattle.node_laws.specs.Records.{BeginsWithMade}
 
 -- the journal, and the records that the tables hold

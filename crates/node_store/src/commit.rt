@@ -7,7 +7,7 @@ ghost use Rattle.rm_base.specs.Text.{IsText};
 ghost use Rattle.rm_disk.specs.Cause.{HasCause};
 ghost use Rattle.rm_disk.specs.Journal.JournalState.{end_of};
 ghost use Rattle.node_tables.specs.Room.{has_room};
-ghost use Rattle.sequence_table.specs.Fits.{all_fit};
+ghost use Rattle.record_batch.specs.Sequences.Fits.{all_fit};
 ghost use Rattle.node_store.specs.Changes.{Changes};
 ghost use Rattle.node_store.specs.Has.{Holds};
 ghost use Rattle.node_store.specs.Failed.{is_disk};

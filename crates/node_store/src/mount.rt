@@ -24,7 +24,7 @@ use node_tables::Tables;
 use record_batch::laws::what_is_written_is_read;
 use rm_disk::Disk;
 use rm_disk::journal::{Journal, JournalError};
-use sequence_table::laws::a_byte_for_each_number;
+use record_batch::sequences::laws::a_byte_for_each_number;
 use std::alloc::Global;
 
 /// The journal of a node on a disk, and the tables of its records.

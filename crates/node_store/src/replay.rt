@@ -7,7 +7,7 @@ ghost use Rattle.record_batch.specs.Fact.{Fact, fact_of};
 ghost use Rattle.record_batch.specs.Writable.{IsBatch, IsWritable};
 ghost use Rattle.rm_disk.specs.Cause.{HasCause};
 ghost use Rattle.rm_disk.specs.Journal.Journal.{Fits};
-ghost use Rattle.sequence_table.specs.Fits.{all_fit};
+ghost use Rattle.record_batch.specs.Sequences.Fits.{all_fit};
 ghost use Rattle.node_laws.specs.Records.{KeepsLimits};
 ghost use Rattle.node_store.specs.Changes.{KeepsUnarmed};
 ghost use Rattle.node_store.specs.Mounted.{AreReplayed, AreReplayedFrom, has_failed, IsAdded, IsMore, IsStuck};

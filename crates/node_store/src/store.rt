@@ -10,7 +10,7 @@ ghost use Rattle.rm_disk.specs.Fuse.{Burns};
 ghost use Rattle.rm_disk.specs.Image.{MayLeave, OnlyLeaves};
 ghost use Rattle.rm_disk.specs.Journal.Entries.{list_of, StandsAsBefore};
 ghost use Rattle.rm_disk.specs.Journal.JournalState.{end_of};
-ghost use Rattle.sequence_table.specs.Fits.{all_fit};
+ghost use Rattle.record_batch.specs.Sequences.Fits.{all_fit};
 ghost use Rattle.node_laws.specs.Records.{IsKept};
 ghost use Rattle.node_store.specs.Changes.{Changes, KeepsUnarmed, WasNotMade};
 ghost use Rattle.node_store.specs.Has.{Has, Holds};
@@ -39,7 +39,7 @@ use record_batch::laws::what_is_written_is_read;
 use rm_base::Uri;
 use rm_disk::Disk;
 use rm_disk::journal::Journal;
-use sequence_table::laws::a_byte_for_each_number;
+use record_batch::sequences::laws::a_byte_for_each_number;
 use std::alloc::Global;
 use std::marker::Model;
 

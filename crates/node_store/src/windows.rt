@@ -3,10 +3,10 @@ ghost use Rattle.std.specs.Prelude.{◌≡◌, ◌↔◌, ◌≤◌, ◌<◌, �
 ghost use Rattle.rm_base.specs.NumberSet.{has_number};
 ghost use Rattle.rm_sides.specs.Destination.Incoming.{items};
 ghost use Rattle.rm_disk.specs.Journal.JournalState.{end_of};
-ghost use Rattle.sequence_table.specs.Destinations.{front, held};
-ghost use Rattle.sequence_table.specs.Fits.{is_incoming_side, is_outgoing_side};
-ghost use Rattle.sequence_table.specs.Makers.{maker};
-ghost use Rattle.sequence_table.specs.Sources.{unacked};
+ghost use Rattle.record_batch.specs.Sequences.Destinations.{front, held};
+ghost use Rattle.record_batch.specs.Sequences.Fits.{is_incoming_side, is_outgoing_side};
+ghost use Rattle.record_batch.specs.Sequences.Makers.{maker};
+ghost use Rattle.record_batch.specs.Sequences.Sources.{unacked};
 ghost use Rattle.node_laws.specs.Records.{BeginsWithMade};
 ghost use Rattle.node_store.specs.Mounted.{AreNear, HasNear, HasWindow, KeepsWindow, KeepsWindows};
 ghost use Rattle.node_store.specs.Stored.{IsServing};

@@ -20,26 +20,28 @@ use Rattle.rm_sides.specs.Destination.Incoming.{forgotten as forgotten_by, passe
 use Rattle.rm_sides.specs.Destination.LooseLemmas.{has_number-without}
 use Rattle.rm_sides.specs.Destination.Messages.{is_empty, numbers_of, without}
 use Rattle.record_batch.specs.Fact.{Fact, Accepted, Received}
-use Rattle.sequence_table.specs.Destinations.{behaviour_of, held, purged, received}
-use Rattle.sequence_table.specs.Find.{accept_of}
-use Rattle.sequence_table.specs.Fits.{all_fit}
-use Rattle.sequence_table.specs.Makers.{Maker, Outgoing, Offered, Incoming, Taken, addresses_of, counter, created}
-use Rattle.sequence_table.specs.Makers.{maker, makers, number}
-use Rattle.sequence_table.specs.Sources.{accepted, dropped}
-use Rattle.sequence_table.specs.Told.{Side, Sends, Receives, Told, first_ticket, last_onto, receiving, sending, side_of}
-use Rattle.sequence_table.specs.Told.{told_all, told_by}
-use Rattle.sequence_table.specs.ToldLemmas.{same_receiving, same_sending, same_told}
-use Rattle.sequence_table.specs.Words.{at_seq}
-use Rattle.record_snapshot.specs.AckedLemmas.{dropped-now, more_}
-use Rattle.record_snapshot.specs.FrameLemmas.{same_frame}
-use Rattle.record_snapshot.specs.GotLemmas.{purged-new, purged-same, received-kept}
-use Rattle.record_snapshot.specs.KeepLemmas.{snapshot-says}
-use Rattle.record_snapshot.specs.PassedLemmas.{held-passed, without-no}
-use Rattle.record_snapshot.specs.Same.{HaveProper, SaysTheSame}
-use Rattle.record_snapshot.specs.SameLemmas.{frame-decides, unacked-is-equal}
-use Rattle.record_snapshot.specs.Snapshot.{passed, settled, snapshot}
-use Rattle.record_snapshot.specs.WalkLemmas.{snapshot-fits}
-use Rattle.record_snapshot.specs.WrittenLemmas.{snapshot-is-proper}
+use Rattle.record_batch.specs.Sequences.Destinations.{behaviour_of, held, purged, received}
+use Rattle.record_batch.specs.Sequences.Find.{accept_of}
+use Rattle.record_batch.specs.Sequences.Fits.{all_fit}
+use Rattle.record_batch.specs.Sequences.Makers.{Maker, Outgoing, Offered, Incoming, Taken, addresses_of, counter}
+use Rattle.record_batch.specs.Sequences.Makers.{created}
+use Rattle.record_batch.specs.Sequences.Makers.{maker, makers, number}
+use Rattle.record_batch.specs.Sequences.Sources.{accepted, dropped}
+use Rattle.record_batch.specs.Sequences.Told.{Side, Sends, Receives, Told, first_ticket, last_onto, receiving, sending}
+use Rattle.record_batch.specs.Sequences.Told.{side_of}
+use Rattle.record_batch.specs.Sequences.Told.{told_all, told_by}
+use Rattle.record_batch.specs.Sequences.ToldLemmas.{same_receiving, same_sending, same_told}
+use Rattle.record_batch.specs.Sequences.Words.{at_seq}
+use Rattle.record_batch.specs.Snapshot.AckedLemmas.{dropped-now, more_}
+use Rattle.record_batch.specs.Snapshot.FrameLemmas.{same_frame}
+use Rattle.record_batch.specs.Snapshot.GotLemmas.{purged-new, purged-same, received-kept}
+use Rattle.record_batch.specs.Snapshot.KeepLemmas.{snapshot-says}
+use Rattle.record_batch.specs.Snapshot.PassedLemmas.{held-passed, without-no}
+use Rattle.record_batch.specs.Snapshot.Same.{HaveProper, SaysTheSame}
+use Rattle.record_batch.specs.Snapshot.SameLemmas.{frame-decides, unacked-is-equal}
+use Rattle.record_batch.specs.Snapshot.Snapshot.{passed, settled, snapshot}
+use Rattle.record_batch.specs.Snapshot.WalkLemmas.{snapshot-fits}
+use Rattle.record_batch.specs.Snapshot.WrittenLemmas.{snapshot-is-proper}
 use Rattle.node_tables.specs.Row.Row.{forgotten}
 use Rattle.node_tables.specs.declared.note.Note.{Note}
 use Rattle.node_tables.specs.declared.note.Note.TheVariants as note

@@ -15,11 +15,11 @@ use Rattle.rm_sides.specs.Destination.ItemLemmas.{has_number-gone, numbers_of-th
 use Rattle.rm_sides.specs.Destination.Messages.{numbers_in, numbers_of, there_items}
 use Rattle.record_batch.specs.declared.record.Record.{Record}
 use Rattle.record_batch.specs.Fact.{Fact, Received, fact_of}
-use Rattle.sequence_table.specs.Destinations.{held, is_stopped, purged, received, received_of}
-use Rattle.sequence_table.specs.Fits.{all_fit, fits, is_incoming_side}
-use Rattle.sequence_table.specs.GatherLemmas.{flat_map-more}
-use Rattle.sequence_table.specs.Makers.{Maker, Outgoing, Offered, Incoming, Taken, maker, makers}
-use Rattle.sequence_table.specs.Told.{Told, side_of, told_from}
+use Rattle.record_batch.specs.Sequences.Destinations.{held, is_stopped, purged, received, received_of}
+use Rattle.record_batch.specs.Sequences.Fits.{all_fit, fits, is_incoming_side}
+use Rattle.record_batch.specs.Sequences.GatherLemmas.{flat_map-more}
+use Rattle.record_batch.specs.Sequences.Makers.{Maker, Outgoing, Offered, Incoming, Taken, maker, makers}
+use Rattle.record_batch.specs.Sequences.Told.{Told, side_of, told_from}
 use Rattle.node_tables.specs.declared.note.Note.{Note}
 use Rattle.node_tables.specs.Copies.{AreOnce, IsThere, MayBeCopied}
 use Rattle.node_tables.specs.Kept.{Holds, Table, fact_at, payload_of, received_in, records_in, records_of}

@@ -6,10 +6,10 @@ use Rattle.std.specs.List.{list_all}
 use Rattle.std.proofs.lemmas.Bool.{and_from, and_parts, cases_eq, eqb-true, false≢true, leb-true, lt-ltb}
 use Rattle.std.proofs.lemmas.List.{append-nil, append_assoc, length-append}
 use Rattle.record_batch.specs.Fact.{Fact, Creating, Granted, Closing, Ending}
-use Rattle.sequence_table.specs.Words.{last_or}
-use Rattle.sequence_table.specs.Makers.{makers, makers_of, counter, draws_of}
-use Rattle.sequence_table.specs.Fits.{fits, all_fit, has_places, is_no_moment, offer_fits}
-use Rattle.sequence_table.specs.NodeLemmas.{one_more}
+use Rattle.record_batch.specs.Sequences.Words.{last_or}
+use Rattle.record_batch.specs.Sequences.Makers.{makers, makers_of, counter, draws_of}
+use Rattle.record_batch.specs.Sequences.Fits.{fits, all_fit, has_places, is_no_moment, offer_fits}
+use Rattle.record_batch.specs.Sequences.NodeLemmas.{one_more}
 use Rattle.node_tables.specs.Row.Row.{is_moment}
 use Rattle.node_tables.specs.Kept.{Table, Holds, is_timed_record, records_in}
 use Rattle.node_tables.proofs.RowsLemmas.{rows-count}

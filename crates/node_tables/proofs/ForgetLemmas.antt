@@ -2,7 +2,7 @@
 use Rattle.std.proofs.Common.{◌≡◌, ℕ, zero, suc, ◌+◌, ◌<◌, ◌≤◌, List, [], ◌∷◌, length, get_or, set, refl, sym, ap, ◌∙◌}
 use Rattle.std.proofs.Common.{arith}
 use Rattle.std.proofs.lemmas.List.{length-map, map-set}
-use Rattle.sequence_table.specs.Told.{Told}
+use Rattle.record_batch.specs.Sequences.Told.{Told}
 use Rattle.node_tables.specs.Row.Row.{Seen, forgotten}
 use Rattle.node_tables.specs.Kept.{all_forgotten, row_at, tolds}
 use Rattle.node_tables.proofs.StepLemmas.{row-at}

@@ -12,18 +12,20 @@ use Rattle.rm_sides.specs.Destination.Messages.{numbers_of}
 use Rattle.record_batch.specs.Fact.{Fact, Accepted, Received, Dropped}
 use Rattle.rm_base.specs.Message.{max_number}
 use Rattle.rm_sides.specs.Source.Outgoing.{accepted_count}
-use Rattle.sequence_table.specs.Makers.{addresses_of, makers, makers_of, created, created_of, draws_of, counter, number}
-use Rattle.sequence_table.specs.Find.{accept_of}
-use Rattle.sequence_table.specs.GatherLemmas.{flat_map-more}
-use Rattle.sequence_table.specs.Sources.{accepted_of, dropped_of}
-use Rattle.sequence_table.specs.Words.{last_or}
+use Rattle.record_batch.specs.Sequences.Makers.{addresses_of, makers, makers_of, created, created_of, draws_of, counter}
+use Rattle.record_batch.specs.Sequences.Makers.{number}
+use Rattle.record_batch.specs.Sequences.Find.{accept_of}
+use Rattle.record_batch.specs.Sequences.GatherLemmas.{flat_map-more}
+use Rattle.record_batch.specs.Sequences.Sources.{accepted_of, dropped_of}
+use Rattle.record_batch.specs.Sequences.Words.{last_or}
 use Rattle.node_tables.specs.Row.Row.{takes}
-use Rattle.sequence_table.specs.Destinations.{received_of}
-use Rattle.sequence_table.specs.Fits.{fits, all_fit, follows}
-use Rattle.sequence_table.specs.OneMore.{number_after}
-use Rattle.sequence_table.specs.Told.{Told, Side, Sends, Receives, begun, after, side_after, each_after, told_all}
-use Rattle.sequence_table.specs.NodeLemmas.{one_more}
-use Rattle.sequence_table.specs.RowLemmas.{told_all-more}
+use Rattle.record_batch.specs.Sequences.Destinations.{received_of}
+use Rattle.record_batch.specs.Sequences.Fits.{fits, all_fit, follows}
+use Rattle.record_batch.specs.Sequences.OneMore.{number_after}
+use Rattle.record_batch.specs.Sequences.Told.{Told, Side, Sends, Receives, begun, after, side_after, each_after}
+use Rattle.record_batch.specs.Sequences.Told.{told_all}
+use Rattle.record_batch.specs.Sequences.NodeLemmas.{one_more}
+use Rattle.record_batch.specs.Sequences.RowLemmas.{told_all-more}
 use Rattle.node_tables.specs.declared.note.Note.{Note}
 use Rattle.node_tables.specs.declared.note.Note.TheVariants as note
 use Rattle.node_tables.specs.declared.note.Origin.{Origin}

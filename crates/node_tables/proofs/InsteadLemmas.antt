@@ -22,14 +22,14 @@ use Rattle.rm_sides.specs.Destination.Incoming.{first_numbers, inbox_of, is_loos
 use Rattle.rm_sides.specs.Destination.LooseLemmas.{has_number-without}
 use Rattle.rm_sides.specs.Destination.Messages.{is_empty, numbers_of}
 use Rattle.record_batch.specs.Fact.{Fact, Accepted, Acked, Received, Consumed, Dropped, Purged}
-use Rattle.sequence_table.specs.Destinations.{behaviour_of, cursor, held, is_stopped, items, told}
-use Rattle.sequence_table.specs.Fits.{fits, follows_at, is_incoming_side, is_outgoing_side}
-use Rattle.sequence_table.specs.Makers.{Maker, Outgoing, Offered, Incoming, Taken, maker, makers, makers_of}
-use Rattle.sequence_table.specs.Sources.{accepted_count, acked}
-use Rattle.sequence_table.specs.Told.{Side, Sends, Receives, Told, told_by}
-use Rattle.record_snapshot.specs.Same.{HasProper}
-use Rattle.record_snapshot.specs.Snapshot.{acked_with, acks, instead, left_acked, passed, past_front, purged_with}
-use Rattle.record_snapshot.specs.Snapshot.{settled}
+use Rattle.record_batch.specs.Sequences.Destinations.{behaviour_of, cursor, held, is_stopped, items, told}
+use Rattle.record_batch.specs.Sequences.Fits.{fits, follows_at, is_incoming_side, is_outgoing_side}
+use Rattle.record_batch.specs.Sequences.Makers.{Maker, Outgoing, Offered, Incoming, Taken, maker, makers, makers_of}
+use Rattle.record_batch.specs.Sequences.Sources.{accepted_count, acked}
+use Rattle.record_batch.specs.Sequences.Told.{Side, Sends, Receives, Told, told_by}
+use Rattle.record_batch.specs.Snapshot.Same.{HasProper}
+use Rattle.record_batch.specs.Snapshot.Snapshot.{acked_with, acks, instead, left_acked, passed, past_front, purged_with}
+use Rattle.record_batch.specs.Snapshot.Snapshot.{settled}
 use Rattle.node_tables.specs.Row.Row.{forgotten}
 use Rattle.node_tables.specs.declared.note.Note.{Note}
 use Rattle.node_tables.specs.declared.note.Note.TheVariants as note

@@ -10,10 +10,10 @@ use Rattle.std.proofs.lemmas.Option.{none-some, same_Some, slice_get-get_or}
 use Rattle.rm_base.specs.Numbered.{numbered}
 use Rattle.record_batch.specs.Fact.{Fact, Made}
 use Rattle.rm_sides.specs.Destination.Messages.{is_empty}
-use Rattle.sequence_table.specs.Words.{first_or}
-use Rattle.sequence_table.specs.Find.{find_from}
-use Rattle.sequence_table.specs.Fits.{all_fit, fits}
-use Rattle.sequence_table.specs.Makers.{Maker, maker, makers_of, nodes_of}
+use Rattle.record_batch.specs.Sequences.Words.{first_or}
+use Rattle.record_batch.specs.Sequences.Find.{find_from}
+use Rattle.record_batch.specs.Sequences.Fits.{all_fit, fits}
+use Rattle.record_batch.specs.Sequences.Makers.{Maker, maker, makers_of, nodes_of}
 use Rattle.node_tables.specs.declared.note.Origin.{Origin}
 use Rattle.node_tables.specs.declared.note.Named.{Named}
 use Rattle.node_tables.specs.Kept.{AreGiven, AreMade, Holds, IsMade, Table, gives_ident, kept_at, maker_at, no_maker}

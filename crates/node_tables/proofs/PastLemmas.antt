@@ -6,9 +6,9 @@ use Rattle.std.specs.Option.{option_map}
 use Rattle.rm_sides.specs.declared.ranges.range.Range.{Range}
 use Rattle.rm_sides.specs.Ranges.Ranges.{IsCanonical, RisesFrom}
 use Rattle.rm_base.specs.Numbered.{numbered}
-use Rattle.sequence_table.specs.Told.{Side, Sends, Receives}
-use Rattle.record_snapshot.specs.Same.{AreProper}
-use Rattle.record_snapshot.specs.Snapshot.{past_front}
+use Rattle.record_batch.specs.Sequences.Told.{Side, Sends, Receives}
+use Rattle.record_batch.specs.Snapshot.Same.{AreProper}
+use Rattle.record_batch.specs.Snapshot.Snapshot.{past_front}
 use Rattle.node_tables.specs.Row.Row.{Seen, receiving_in}
 use Rattle.node_tables.specs.Kept.{tolds}
 use Rattle.node_tables.specs.Shorter.{IsRange, passed_by, passed_in}

@@ -11,7 +11,7 @@ use Rattle.rm_sides.specs.declared.ranges.range.Range.{Range}
 use Rattle.record_batch.specs.Fact.{Fact, Created, Accepted, Acked, Received, Closing, ClosedOut, Closed}
 use Rattle.record_batch.specs.Fact.{Ending}
 use Rattle.record_batch.specs.Fact.{EndedOut, Ended, Failed, Consumed, Dropped, Purged}
-use Rattle.sequence_table.specs.Told.{Side, Sends, Receives, Told, names}
+use Rattle.record_batch.specs.Sequences.Told.{Side, Sends, Receives, Told, names}
 use Rattle.rm_base.specs.declared.message.Payload.{Payload}
 use Rattle.node_tables.specs.Row.Row.{Room, Seen, is_sender, side_step, takes, takes_message, takes_payload, with_room}
 use Rattle.node_tables.specs.Row.Row.{with_accepted, with_acked, with_received}

@@ -16,11 +16,11 @@ use Rattle.rm_sides.specs.Destination.Messages.{is_empty}
 use Rattle.record_batch.specs.Fact.{Fact, Created, Accepted, Acked, Received, Closing, ClosedOut, Closed}
 use Rattle.record_batch.specs.Fact.{Ending}
 use Rattle.record_batch.specs.Fact.{EndedOut, Ended, Failed, Consumed, Dropped, Purged}
-use Rattle.sequence_table.specs.Makers.{Maker, makers, maker, counter}
-use Rattle.sequence_table.specs.Fits.{fits, follows, is_incoming_side, is_outgoing_side, is_up_to, may_be_gone}
-use Rattle.sequence_table.specs.Sources.{accepted_count, phase}
-use Rattle.sequence_table.specs.Destinations.{behaviour, cursor, has_end, held, inbox, is_stopped}
-use Rattle.sequence_table.specs.Told.{Side, Sends, Receives, Told, names, told_all, told_by, told_from}
+use Rattle.record_batch.specs.Sequences.Makers.{Maker, makers, maker, counter}
+use Rattle.record_batch.specs.Sequences.Fits.{fits, follows, is_incoming_side, is_outgoing_side, is_up_to, may_be_gone}
+use Rattle.record_batch.specs.Sequences.Sources.{accepted_count, phase}
+use Rattle.record_batch.specs.Sequences.Destinations.{behaviour, cursor, has_end, held, inbox, is_stopped}
+use Rattle.record_batch.specs.Sequences.Told.{Side, Sends, Receives, Told, names, told_all, told_by, told_from}
 use Rattle.node_tables.specs.Row.Row.{Seen, takes, draws_next, receiving_in}
 use Rattle.node_tables.specs.Row.TakesLemmas.{fits-takes}
 use Rattle.node_tables.specs.Kept.{Table, Holds, held_in, records_in, told_in, takes_at, is_naming, row_at, no_row}

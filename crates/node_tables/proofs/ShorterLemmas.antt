@@ -19,17 +19,17 @@ use Rattle.rm_base.specs.NumberSet.{has_number}
 use Rattle.rm_base.specs.Numbered.{numbered}
 use Rattle.rm_sides.specs.Destination.Messages.{is_empty, numbers_in, numbers_of, without}
 use Rattle.record_batch.specs.Fact.{Fact, Accepted, Dropped, Purged}
-use Rattle.sequence_table.specs.Destinations.{held, purged, received}
-use Rattle.sequence_table.specs.Fits.{all_fit, is_outgoing_side}
-use Rattle.sequence_table.specs.Makers.{Maker, maker}
-use Rattle.sequence_table.specs.Sources.{accepted_count, dropped_of}
-use Rattle.sequence_table.specs.Told.{Told, told_by}
-use Rattle.record_snapshot.specs.FitLemmas.{SoFar, count_so_far, so-far-on}
-use Rattle.record_snapshot.specs.GotLemmas.{got_with, held-is, held-length, held-more, some-not}
-use Rattle.record_snapshot.specs.PassedLemmas.{passed-some, without-no}
-use Rattle.record_snapshot.specs.Same.{HasProper, HaveProper}
-use Rattle.record_snapshot.specs.Snapshot.{acks, instead, passed, settled, snapshot_from}
-use Rattle.record_snapshot.specs.WalkLemmas.{drops-settled, start}
+use Rattle.record_batch.specs.Sequences.Destinations.{held, purged, received}
+use Rattle.record_batch.specs.Sequences.Fits.{all_fit, is_outgoing_side}
+use Rattle.record_batch.specs.Sequences.Makers.{Maker, maker}
+use Rattle.record_batch.specs.Sequences.Sources.{accepted_count, dropped_of}
+use Rattle.record_batch.specs.Sequences.Told.{Told, told_by}
+use Rattle.record_batch.specs.Snapshot.FitLemmas.{SoFar, count_so_far, so-far-on}
+use Rattle.record_batch.specs.Snapshot.GotLemmas.{got_with, held-is, held-length, held-more, some-not}
+use Rattle.record_batch.specs.Snapshot.PassedLemmas.{passed-some, without-no}
+use Rattle.record_batch.specs.Snapshot.Same.{HasProper, HaveProper}
+use Rattle.record_batch.specs.Snapshot.Snapshot.{acks, instead, passed, settled, snapshot_from}
+use Rattle.record_batch.specs.Snapshot.WalkLemmas.{drops-settled, start}
 use Rattle.node_tables.specs.declared.note.Note.{Note}
 use Rattle.node_tables.specs.declared.note.Note.TheVariants as note
 use Rattle.node_tables.specs.Kept.{AllHeld, AreWhole, HasPlace, HavePlaces, IsHeld, IsShort, all_forgotten, dropped_in}

@@ -15,9 +15,9 @@ use Rattle.rm_sides.specs.Source.Outgoing.{accepted_count}
 use Rattle.rm_sides.specs.Destination.Incoming.{held}
 use Rattle.rm_sides.specs.Destination.Messages.{is_empty}
 use Rattle.record_batch.specs.Fact.{Fact, Accepted, Acked, Received}
-use Rattle.sequence_table.specs.Fits.{follows, is_up_to}
-use Rattle.sequence_table.specs.Told.{Told, Side, Sends, Receives, names, after, each_after}
-use Rattle.sequence_table.specs.ToldLemmas.{after-elsewhere, same_told}
+use Rattle.record_batch.specs.Sequences.Fits.{follows, is_up_to}
+use Rattle.record_batch.specs.Sequences.Told.{Told, Side, Sends, Receives, names, after, each_after}
+use Rattle.record_batch.specs.Sequences.ToldLemmas.{after-elsewhere, same_told}
 use Rattle.node_tables.specs.Row.Row.{Seen, is_open, step, takes, takes_acked, takes_message}
 use Rattle.node_tables.specs.Row.Row.{side_step, takes_payload, ticket_step}
 use Rattle.node_tables.specs.Row.StepLemmas.{after-step}

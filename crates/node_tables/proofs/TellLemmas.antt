@@ -17,15 +17,16 @@ use Rattle.rm_sides.specs.Destination.Messages.{is_empty, numbers_in, numbers_of
 use Rattle.record_batch.specs.Fact.{Fact, Made, Creating, Created, Granted, Accepted, Acked, Received, Consumed}
 use Rattle.record_batch.specs.Fact.{Dropped, Purged}
 use Rattle.std.specs.List.{flat_map}
-use Rattle.sequence_table.specs.Find.{accept_of}
-use Rattle.sequence_table.specs.Destinations.{held}
-use Rattle.sequence_table.specs.Makers.{Maker, Outgoing, Offered, Incoming, Taken, addresses_of, makers_of, created_of}
-use Rattle.sequence_table.specs.Makers.{draws_of, maker}
-use Rattle.sequence_table.specs.Sources.{accepted_count}
-use Rattle.sequence_table.specs.Fits.{fits}
-use Rattle.sequence_table.specs.OneMore.{number_after}
-use Rattle.sequence_table.specs.Told.{Told, Side, Sends, Receives, begun, each_after, names, side_of, told_by}
-use Rattle.sequence_table.specs.NameLemmas.{names-within}
+use Rattle.record_batch.specs.Sequences.Find.{accept_of}
+use Rattle.record_batch.specs.Sequences.Destinations.{held}
+use Rattle.record_batch.specs.Sequences.Makers.{Maker, Outgoing, Offered, Incoming, Taken, addresses_of, makers_of}
+use Rattle.record_batch.specs.Sequences.Makers.{created_of}
+use Rattle.record_batch.specs.Sequences.Makers.{draws_of, maker}
+use Rattle.record_batch.specs.Sequences.Sources.{accepted_count}
+use Rattle.record_batch.specs.Sequences.Fits.{fits}
+use Rattle.record_batch.specs.Sequences.OneMore.{number_after}
+use Rattle.record_batch.specs.Sequences.Told.{Told, Side, Sends, Receives, begun, each_after, names, side_of, told_by}
+use Rattle.record_batch.specs.Sequences.NameLemmas.{names-within}
 use Rattle.record_batch.specs.declared.record.Record.{Record}
 use Rattle.node_tables.specs.Row.Row.{Seen, takes, takes_message, takes_payload}
 use Rattle.node_tables.specs.declared.note.Note.{Note}

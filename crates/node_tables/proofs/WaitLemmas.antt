@@ -8,15 +8,16 @@ use Rattle.std.proofs.lemmas.List.{length-append}
 use Rattle.std.proofs.lemmas.List.Sums.{sum_by-cons}
 use Rattle.rm_sides.specs.Source.Outgoing.{first_run}
 use Rattle.record_batch.specs.Fact.{Accepted, Dropped, Fact}
-use Rattle.sequence_table.specs.GatherLemmas.{last_or-append}
-use Rattle.sequence_table.specs.Makers.{Maker, Outgoing, Offered, Incoming, Taken, makers}
-use Rattle.sequence_table.specs.Sources.{accepted, accepted_of, acked, acked_of, all_unacked, dropped, dropped_of}
-use Rattle.sequence_table.specs.Sources.{is_sending, phase, unacked_at, unacked_from}
-use Rattle.sequence_table.specs.Words.{Text, last_or}
+use Rattle.record_batch.specs.Sequences.GatherLemmas.{last_or-append}
+use Rattle.record_batch.specs.Sequences.Makers.{Maker, Outgoing, Offered, Incoming, Taken, makers}
+use Rattle.record_batch.specs.Sequences.Sources.{accepted, accepted_of, acked, acked_of, all_unacked, dropped}
+use Rattle.record_batch.specs.Sequences.Sources.{dropped_of}
+use Rattle.record_batch.specs.Sequences.Sources.{is_sending, phase, unacked_at, unacked_from}
+use Rattle.record_batch.specs.Sequences.Words.{Text, last_or}
 use Rattle.rm_sides.specs.declared.ranges.range.Range.{Range}
 use Rattle.rm_sides.specs.Ranges.Changes.{united, with_range}
 use Rattle.rm_sides.specs.Ranges.Ranges.{count_of, size_of}
-use Rattle.sequence_table.specs.Told.{Told, told_by, told_from}
+use Rattle.record_batch.specs.Sequences.Told.{Told, told_by, told_from}
 use Rattle.node_tables.specs.Row.Row.{Seen}
 use Rattle.node_tables.specs.Kept.{Table, Holds, records_in, tolds}
 use Rattle.node_tables.specs.Reads.{waiting}

@@ -6,12 +6,12 @@ use Rattle.rm_sides.specs.declared.source.phase.OutPhase.{OutPhase}
 use Rattle.rm_sides.specs.declared.source.phase.OutPhase.TheVariants as out
 use Rattle.record_batch.specs.Fact.{Fact}
 use Rattle.rm_sides.specs.Destination.Messages.{is_empty}
-use Rattle.sequence_table.specs.Words.{Text, last_or}
-use Rattle.sequence_table.specs.Find.{is_creating}
-use Rattle.sequence_table.specs.Idents.{issue}
-use Rattle.sequence_table.specs.Makers.{Maker, Outgoing, Offered, Incoming, Taken, number}
-use Rattle.sequence_table.specs.Sources.{first_phase, marks, out_ident, phase}
-use Rattle.sequence_table.specs.PhaseLemmas.{creating-bare}
+use Rattle.record_batch.specs.Sequences.Words.{Text, last_or}
+use Rattle.record_batch.specs.Sequences.Find.{is_creating}
+use Rattle.record_batch.specs.Sequences.Idents.{issue}
+use Rattle.record_batch.specs.Sequences.Makers.{Maker, Outgoing, Offered, Incoming, Taken, number}
+use Rattle.record_batch.specs.Sequences.Sources.{first_phase, marks, out_ident, phase}
+use Rattle.record_batch.specs.Sequences.PhaseLemmas.{creating-bare}
 use Rattle.node_tables.specs.Reads.{is_asked, is_asking}
 
 asking_later : (p : OutPhase) → (p ≡ out.Creating → ⊥) → is_asking p ≡ false

@@ -4,7 +4,7 @@ use Rattle.std.specs.List.{AllByRecursion}
 use Rattle.rm_base.specs.NumberSet.{has_number}
 use Rattle.rm_base.specs.declared.message.Payload.{Payload}
 use Rattle.rm_sides.specs.Destination.Messages.{numbers_of}
-use Rattle.sequence_table.specs.Told.{Told}
+use Rattle.record_batch.specs.Sequences.Told.{Told}
 use Rattle.node_tables.specs.Kept.{received_in}
 
 -- no two messages have one number

@@ -3,8 +3,8 @@ use Rattle.std.specs.Option.{option_map}
 use Rattle.std.specs.Prelude.{Bool, ◌&&◌, ◌≡◌, ◌==◌, ℕ, ◌+◌, ◌-◌, ◌<◌, ◌≤◌, true, false, if◌then◌else◌, List, [], ◌∷◌}
 use Rattle.std.specs.Prelude.{◌++◌, length, map, Option, None, Some, slice_index_or}
 use Rattle.std.specs.List.{AllByRecursion, flat_map}
-use Rattle.record_snapshot.specs.Same.{HaveProper}
-use Rattle.record_snapshot.specs.Snapshot.{snapshot}
+use Rattle.record_batch.specs.Snapshot.Same.{HaveProper}
+use Rattle.record_batch.specs.Snapshot.Snapshot.{snapshot}
 use Rattle.rm_base.specs.NumberSet.{has_number}
 use Rattle.rm_base.specs.declared.message.Payload.{Payload}
 use Rattle.rm_sides.specs.Destination.Incoming.{held as held_by}
@@ -13,14 +13,15 @@ use Rattle.rm_sides.specs.Source.Outgoing.{accepted_count as count_by}
 use Rattle.record_batch.specs.declared.record.Record.{Record}
 use Rattle.record_batch.specs.Fact.{Fact, fact_of, Made, Creating, Accepted, Acked, Received, Created}
 use Rattle.record_batch.specs.Fact.{Granted, Consumed, Dropped, Purged}
-use Rattle.sequence_table.specs.Words.{Text}
+use Rattle.record_batch.specs.Sequences.Words.{Text}
 use Rattle.wsa_headers.specs.declared.endpoint.Epr.{Epr}
-use Rattle.sequence_table.specs.Makers.{Maker, Taken, maker, makers, makers_of, created, counter, number, addresses_of}
-use Rattle.sequence_table.specs.Find.{accept_of}
-use Rattle.sequence_table.specs.Destinations.{held}
-use Rattle.sequence_table.specs.Fits.{all_fit}
-use Rattle.sequence_table.specs.Sources.{accepted_count}
-use Rattle.sequence_table.specs.Told.{Told, Side, Sends, Receives, begun, told_by, told_all}
+use Rattle.record_batch.specs.Sequences.Makers.{Maker, Taken, maker, makers, makers_of, created, counter, number}
+use Rattle.record_batch.specs.Sequences.Makers.{addresses_of}
+use Rattle.record_batch.specs.Sequences.Find.{accept_of}
+use Rattle.record_batch.specs.Sequences.Destinations.{held}
+use Rattle.record_batch.specs.Sequences.Fits.{all_fit}
+use Rattle.record_batch.specs.Sequences.Sources.{accepted_count}
+use Rattle.record_batch.specs.Sequences.Told.{Told, Side, Sends, Receives, begun, told_by, told_all}
 use Rattle.node_tables.specs.Row.Row.{Seen, forgotten, is_moment, takes}
 use Rattle.node_tables.specs.declared.note.Note.{Note}
 use Rattle.node_tables.specs.declared.note.Note.TheVariants as note

@@ -7,10 +7,10 @@ use Rattle.rm_sides.specs.Destination.Incoming.{Receiving, is_stopped as stopped
 use Rattle.rm_sides.specs.Destination.Incoming.{discarded as discarded_in, held as held_in, items as items_in}
 use Rattle.rm_sides.specs.Destination.Messages.{any_true as any_in, front_of}
 use Rattle.record_batch.specs.Fact.{Fact}
-use Rattle.sequence_table.specs.Makers.{address, number}
-use Rattle.sequence_table.specs.Destinations.{cursor, discarded, front, has_end, held, inbox, is_ended, is_over}
-use Rattle.sequence_table.specs.Destinations.{is_stopped}
-use Rattle.sequence_table.specs.Told.{sending}
+use Rattle.record_batch.specs.Sequences.Makers.{address, number}
+use Rattle.record_batch.specs.Sequences.Destinations.{cursor, discarded, front, has_end, held, inbox, is_ended, is_over}
+use Rattle.record_batch.specs.Sequences.Destinations.{is_stopped}
+use Rattle.record_batch.specs.Sequences.Told.{sending}
 use Rattle.node_tables.specs.Reads.{address_in, incoming_in, outgoing_in}
 
 -- a phase after the end

@@ -3,9 +3,9 @@ use Rattle.std.specs.Prelude.{ℕ, ◌+◌, ◌-◌, if◌then◌else◌, List, 
 use Rattle.std.specs.Option.{option_map}
 use Rattle.wsa_headers.specs.declared.endpoint.Epr.{Epr}
 use Rattle.record_batch.specs.Fact.{Fact}
-use Rattle.sequence_table.specs.Find.{accepted_by, is_offered, is_taken}
-use Rattle.sequence_table.specs.Makers.{Maker, Outgoing, Offered, Incoming, Taken, maker}
-use Rattle.sequence_table.specs.Words.{Text}
+use Rattle.record_batch.specs.Sequences.Find.{accepted_by, is_offered, is_taken}
+use Rattle.record_batch.specs.Sequences.Makers.{Maker, Outgoing, Offered, Incoming, Taken, maker}
+use Rattle.record_batch.specs.Sequences.Words.{Text}
 use Rattle.node_tables.specs.declared.peer.Asked.{Asked}
 use Rattle.node_tables.specs.declared.peer.Grant.{Grant}
 use Rattle.node_tables.specs.declared.peer.Peer.{Peer as Lent}

@@ -7,11 +7,12 @@ use Rattle.rm_sides.specs.declared.source.phase.OutPhase.TheVariants as out
 use Rattle.rm_sides.specs.Source.Outgoing.{Sending, unacked_of}
 use Rattle.rm_sides.specs.Destination.Incoming.{Receiving}
 use Rattle.record_batch.specs.Fact.{Fact}
-use Rattle.sequence_table.specs.Words.{Text}
-use Rattle.sequence_table.specs.Idents.{issue}
-use Rattle.sequence_table.specs.Makers.{Maker, Outgoing, Offered, Incoming, Taken, addresses_of, maker, makers_of}
-use Rattle.sequence_table.specs.Sources.{is_sending, tickets}
-use Rattle.sequence_table.specs.Told.{Side, Sends, Receives, first_ticket, last_onto, receiving, sending}
+use Rattle.record_batch.specs.Sequences.Words.{Text}
+use Rattle.record_batch.specs.Sequences.Idents.{issue}
+use Rattle.record_batch.specs.Sequences.Makers.{Maker, Outgoing, Offered, Incoming, Taken, addresses_of, maker}
+use Rattle.record_batch.specs.Sequences.Makers.{makers_of}
+use Rattle.record_batch.specs.Sequences.Sources.{is_sending, tickets}
+use Rattle.record_batch.specs.Sequences.Told.{Side, Sends, Receives, first_ticket, last_onto, receiving, sending}
 use Rattle.node_tables.specs.declared.maker.Maker.{Maker as Lent}
 use Rattle.node_tables.specs.declared.maker.Maker.TheVariants as lent
 use Rattle.node_tables.specs.Kept.{gives_ident, ident_given, no_maker}

@@ -2,7 +2,7 @@
 use Rattle.std.specs.Prelude.{◌≡◌, ◌≤◌, ◌↔◌, true, false, List, ◌∷◌, ◌++◌, length}
 use Rattle.std.specs.List.{flat_map, list_all}
 use Rattle.record_batch.specs.Fact.{Fact}
-use Rattle.sequence_table.specs.Fits.{all_fit, fits}
+use Rattle.record_batch.specs.Sequences.Fits.{all_fit, fits}
 use Rattle.node_tables.specs.declared.error.TableError.{TableError}
 use Rattle.node_tables.specs.declared.error.TableError.TheVariants.{Misfit}
 use Rattle.node_tables.specs.Kept.{Tabled}

@@ -10,10 +10,10 @@ use Rattle.rm_sides.specs.declared.destination.outcome.InPhase.TheVariants.{Open
 use Rattle.rm_sides.specs.declared.destination.outcome.InPhase.TheVariants.{Ended as is_ended}
 use Rattle.rm_sides.specs.Destination.Messages.{Item, any_true, contents_of, is_empty}
 use Rattle.record_batch.specs.Fact.{Fact, Made}
-use Rattle.sequence_table.specs.Makers.{Maker, Outgoing, Offered, Incoming, Taken, address, maker}
-use Rattle.sequence_table.specs.Makers.{number}
-use Rattle.sequence_table.specs.Destinations.{behaviour_of, closes, deadline_of, messages, told}
-use Rattle.sequence_table.specs.Told.{receiving, sending}
+use Rattle.record_batch.specs.Sequences.Makers.{Maker, Outgoing, Offered, Incoming, Taken, address, maker}
+use Rattle.record_batch.specs.Sequences.Makers.{number}
+use Rattle.record_batch.specs.Sequences.Destinations.{behaviour_of, closes, deadline_of, messages, told}
+use Rattle.record_batch.specs.Sequences.Told.{receiving, sending}
 use Rattle.node_tables.specs.Laws.{IsAsRecorded, is_end, is_shut}
 use Rattle.node_tables.specs.Reads.{address_in, incoming_in, incoming_of, outgoing_in, outgoing_of}
 

@@ -9,10 +9,10 @@ use Rattle.rm_base.specs.Numbered.{numbered}
 use Rattle.rm_sides.specs.Destination.Incoming.{passed}
 use Rattle.rm_sides.specs.Destination.Messages.{is_empty}
 use Rattle.record_batch.specs.Fact.{Fact, Acked, Consumed, Dropped, Purged}
-use Rattle.sequence_table.specs.Fits.{all_fit}
-use Rattle.sequence_table.specs.Told.{Side, Sends, Receives, Told, told_all}
-use Rattle.record_snapshot.specs.Same.{AreProper}
-use Rattle.record_snapshot.specs.Snapshot.{past_front}
+use Rattle.record_batch.specs.Sequences.Fits.{all_fit}
+use Rattle.record_batch.specs.Sequences.Told.{Side, Sends, Receives, Told, told_all}
+use Rattle.record_batch.specs.Snapshot.Same.{AreProper}
+use Rattle.record_batch.specs.Snapshot.Snapshot.{past_front}
 use Rattle.node_tables.specs.declared.note.Note.{Note}
 use Rattle.node_tables.specs.declared.note.Note.TheVariants as note
 use Rattle.node_tables.specs.Kept.{AllHeld, AreWhole, HavePlaces, fact_at, kept_at, records_of}

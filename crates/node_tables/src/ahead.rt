@@ -6,8 +6,8 @@ ghost use Rattle.std.specs.Option.{option_to_list};
 ghost use Rattle.record_batch.specs.Fact.{fact_of};
 ghost use Rattle.node_tables.specs.declared.row.row.Start.{Start};
 ghost use Rattle.node_tables.specs.Row.Row.{is_timed_start, started};
-ghost use Rattle.sequence_table.specs.Makers.{makers_of};
-ghost use Rattle.sequence_table.specs.Told.{begun};
+ghost use Rattle.record_batch.specs.Sequences.Makers.{makers_of};
+ghost use Rattle.record_batch.specs.Sequences.Told.{begun};
 ghost use Rattle.node_tables.specs.Kept.{is_timed_record, tolds};
 ghost use Rattle.node_tables.specs.Room.{AreBegun, all_spares, all_timed, spare_of, spares_ahead, starts, starts_of};
 

@@ -4,9 +4,9 @@ ghost use Rattle.std.specs.List.{flat_map};
 ghost use Rattle.std.specs.Option.{option_copied, option_map};
 ghost use Rattle.std.specs.Str.{bytes_eq};
 ghost use Rattle.record_batch.specs.Fact.{fact_of};
-ghost use Rattle.sequence_table.specs.Find.{accept_of, find_from, is_granted};
-ghost use Rattle.sequence_table.specs.Makers.{addresses_of, ident_in, seq_in};
-ghost use Rattle.sequence_table.specs.Words.{at_seq, first_or};
+ghost use Rattle.record_batch.specs.Sequences.Find.{accept_of, find_from, is_granted};
+ghost use Rattle.record_batch.specs.Sequences.Makers.{addresses_of, ident_in, seq_in};
+ghost use Rattle.record_batch.specs.Sequences.Words.{at_seq, first_or};
 ghost use Rattle.node_tables.specs.Kept.{AreGiven, accept_at, ident_given, kept_at, maker_at, named_at};
 ghost use Rattle.node_tables.specs.Reads.{ident_by, maker_from};
 

@@ -1,5 +1,5 @@
 //! The sequences of a node, as its records tell of them. It stands on one sequence, `row`, and on what a list
-//! of records says, `sequence_table`.
+//! of records says, `record_batch::sequences`.
 #![tactic(auto)]
 
 mod ahead;

@@ -2,11 +2,11 @@
 ghost use Rattle.std.specs.Prelude.{◌≡◌, ℕ, if◌then◌else◌, Some, true, map, slice_get};
 ghost use Rattle.std.specs.Option.{option_map};
 ghost use Rattle.record_batch.specs.Fact.{fact_of};
-ghost use Rattle.sequence_table.specs.Find.{is_incoming};
-ghost use Rattle.sequence_table.specs.Fits.{is_outgoing_side};
-ghost use Rattle.sequence_table.specs.Idents.{IsIssuedFor};
-ghost use Rattle.sequence_table.specs.Makers.{makers_of};
-ghost use Rattle.sequence_table.specs.Words.{Text};
+ghost use Rattle.record_batch.specs.Sequences.Find.{is_incoming};
+ghost use Rattle.record_batch.specs.Sequences.Fits.{is_outgoing_side};
+ghost use Rattle.record_batch.specs.Sequences.Idents.{IsIssuedFor};
+ghost use Rattle.record_batch.specs.Sequences.Makers.{makers_of};
+ghost use Rattle.record_batch.specs.Sequences.Words.{Text};
 ghost use Rattle.node_tables.specs.Kept.{kept_at};
 ghost use Rattle.node_tables.specs.Reads.{is_asked, maker_seen};
 

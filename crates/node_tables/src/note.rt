@@ -1,7 +1,7 @@
 //! What is kept of each record, in the order of their coming.
 ghost use Rattle.std.specs.Prelude.{◌≡◌, IsTrue, List};
 ghost use Rattle.record_batch.specs.Fact.{Fact, fact_of};
-ghost use Rattle.sequence_table.specs.Told.{Told};
+ghost use Rattle.record_batch.specs.Sequences.Told.{Told};
 ghost use Rattle.node_tables.specs.Kept.{HasPlace, IsHeld, fact_at, is_passing};
 
 use rm_sides::ranges::RangeSet;

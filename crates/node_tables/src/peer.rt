@@ -1,8 +1,8 @@
 //! Whom a sequence is with, and what it was asked for or granted with.
 ghost use Rattle.std.specs.Prelude.{◌≡◌, ◌+◌, ◌<◌, ◌^◌, if◌then◌else◌, Some, None, IfSome};
 ghost use Rattle.std.specs.Option.{option_map};
-ghost use Rattle.sequence_table.specs.Find.{is_offered, is_taken};
-ghost use Rattle.sequence_table.specs.Makers.{maker};
+ghost use Rattle.record_batch.specs.Sequences.Find.{is_offered, is_taken};
+ghost use Rattle.record_batch.specs.Sequences.Makers.{maker};
 ghost use Rattle.node_tables.specs.Peers.{asked, grant, peer, peer_seen};
 ghost use Rattle.node_tables.specs.Reads.{maker_seen};
 

@@ -1,16 +1,16 @@
 //! What a record says of the node, and the traces that it leaves in the tables.
 ghost use Rattle.std.specs.Prelude.{◌≡◌, ◌+◌, ◌<◌, ◌≤◌, ◌++◌, length, vec_len, vec_capacity};
 ghost use Rattle.record_batch.specs.Fact.{fact_of};
-ghost use Rattle.sequence_table.specs.Fits.{offer_fits};
-ghost use Rattle.sequence_table.specs.Makers.{draws_of, makers_of};
-ghost use Rattle.sequence_table.specs.OneMore.{number_after};
-ghost use Rattle.sequence_table.specs.Told.{names};
-ghost use Rattle.sequence_table.specs.Words.{last_or};
+ghost use Rattle.record_batch.specs.Sequences.Fits.{offer_fits};
+ghost use Rattle.record_batch.specs.Sequences.Makers.{draws_of, makers_of};
+ghost use Rattle.record_batch.specs.Sequences.OneMore.{number_after};
+ghost use Rattle.record_batch.specs.Sequences.Told.{names};
+ghost use Rattle.record_batch.specs.Sequences.Words.{last_or};
 ghost use Rattle.node_tables.specs.Kept.{names_for, origins_for};
 
 use crate::note::{Named, Origin};
 use record_batch::{OwnOffer, Record};
-use sequence_table::made_by;
+use record_batch::sequences::made_by;
 
 /// The sequence that a record names, and 0 where it names none.
 pub(crate) fn named_by(given: &Record) -> u32

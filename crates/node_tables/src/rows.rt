@@ -5,7 +5,7 @@ ghost use Rattle.record_batch.specs.Fact.{Accepted, Acked, Received, fact_of};
 ghost use Rattle.rm_base.specs.Message.{max_number};
 ghost use Rattle.rm_sides.specs.Destination.Messages.{is_empty};
 ghost use Rattle.node_tables.specs.Row.Row.{Seen, step, takes, takes_message, takes_payload};
-ghost use Rattle.sequence_table.specs.Told.{each_after, names};
+ghost use Rattle.record_batch.specs.Sequences.Told.{each_after, names};
 ghost use Rattle.node_tables.specs.Kept.{accepted_count_in, all_forgotten, held_in, is_passing, is_whole, row_at};
 ghost use Rattle.node_tables.specs.Kept.{tolds};
 ghost use Rattle.node_tables.specs.Reads.{waiting};

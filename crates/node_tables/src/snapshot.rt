@@ -9,7 +9,7 @@ ghost use Rattle.record_batch.specs.Fact.{Acked, Fact, fact_of};
 ghost use Rattle.rm_sides.specs.Ranges.Changes.{united};
 ghost use Rattle.rm_sides.specs.Ranges.Ranges.{front_of, in_ranges};
 ghost use Rattle.rm_sides.specs.Destination.Messages.{is_empty};
-ghost use Rattle.record_snapshot.specs.Snapshot.{past_front};
+ghost use Rattle.record_batch.specs.Snapshot.Snapshot.{past_front};
 ghost use Rattle.node_tables.specs.declared.note.Note.TheVariants.{Accepted, Purged, Received};
 ghost use Rattle.node_tables.specs.Kept.{IsShort, fact_at, tolds};
 ghost use Rattle.node_tables.specs.Shorter.{HasRow, IsFree, IsOwn, IsProperNote, IsPut, IsRange, IsRecorded, acked_in};

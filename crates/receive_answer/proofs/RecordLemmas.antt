@@ -9,8 +9,8 @@ use Rattle.rm_base.specs.Limits.{entry_bytes}
 use Rattle.node_laws.specs.Sizes.Room.{HasRoom}
 use Rattle.record_batch.specs.Batch.{batch_text}
 use Rattle.record_batch.specs.Fact.{Fact, Made}
-use Rattle.sequence_table.specs.Fits.{all_fit}
-use Rattle.sequence_table.specs.Makers.{counter, draws_of, number}
+use Rattle.record_batch.specs.Sequences.Fits.{all_fit}
+use Rattle.record_batch.specs.Sequences.Makers.{counter, draws_of, number}
 use Rattle.node_laws.specs.Records.{BeginsWithMade}
 use Rattle.node_laws.specs.Answers.Serving.{Serves}
 

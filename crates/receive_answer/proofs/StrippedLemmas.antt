@@ -8,7 +8,7 @@ use Rattle.rm_message.specs.declared.refusal.FaultKind.TheVariants.{StoreFull}
 use Rattle.message_writer.specs.Faults.{fault_of}
 use Rattle.wsa_headers.specs.declared.addressing.Addressing.{Addressing}
 use Rattle.record_batch.specs.Fact.{Fact}
-use Rattle.sequence_table.specs.Words.{Text}
+use Rattle.record_batch.specs.Sequences.Words.{Text}
 use Rattle.rm_protocol.specs.Calls.{Answer, Done, refusal_of}
 use Rattle.rm_protocol.specs.Said.{acks_said, answered, ask_acks, data_acks, data_ident, found_in, given_with}
 use Rattle.rm_protocol.specs.Said.{responses, said}

@@ -2,7 +2,7 @@
 ghost use Rattle.tables_ahead.specs.Known.{all_records};
 ghost use Rattle.std.specs.Prelude.{◌≡◌, ◌++◌, [], true, None, IfOk};
 ghost use Rattle.message_writer.specs.Faults.{fault_of};
-ghost use Rattle.sequence_table.specs.Fits.{all_fit};
+ghost use Rattle.record_batch.specs.Sequences.Fits.{all_fit};
 ghost use Rattle.rm_protocol.specs.Calls.{
   fault_block as fault_block_of,
   fault_ident as fault_ident_of,

@@ -1,7 +1,7 @@
 //! The messages that a peer says are missing: WS-ReliableMessaging 1.2, section 3.9.
 ghost use Rattle.std.specs.Prelude.{◌≡◌, ◌++◌, map, IfOk, OnOk};
 ghost use Rattle.rm_protocol.specs.Waiting.{key, nacked as nacked_by, nacked_at, nacked_of as nacked_in};
-ghost use Rattle.sequence_table.specs.Find.{find_outgoing};
+ghost use Rattle.record_batch.specs.Sequences.Find.{find_outgoing};
 ghost use Rattle.node_laws.specs.Answers.Answers.{moves_seen};
 ghost use Rattle.receive_answer.specs.Untold.{urging as urging_of};
 

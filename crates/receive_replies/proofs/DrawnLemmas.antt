@@ -10,10 +10,10 @@ use Rattle.rm_base.specs.declared.message.Behaviour.{Behaviour}
 use Rattle.rm_base.specs.declared.lapse.Lapse.{Lapse}
 use Rattle.wsa_headers.specs.declared.endpoint.Epr.{Epr}
 use Rattle.record_batch.specs.Fact.{Fact, Creating, Granted}
-use Rattle.sequence_table.specs.Words.{Text}
-use Rattle.sequence_table.specs.Makers.{Maker, Incoming, makers, makers_of, maker, draws_of, counter}
-use Rattle.sequence_table.specs.Fits.{fits, all_fit}
-use Rattle.sequence_table.specs.NodeLemmas.{one_more}
+use Rattle.record_batch.specs.Sequences.Words.{Text}
+use Rattle.record_batch.specs.Sequences.Makers.{Maker, Incoming, makers, makers_of, maker, draws_of, counter}
+use Rattle.record_batch.specs.Sequences.Fits.{fits, all_fit}
+use Rattle.record_batch.specs.Sequences.NodeLemmas.{one_more}
 
 -- the number of a granted sequence is at most n
 abbrev pub IsDrawn : ℕ → Maker → Type 0

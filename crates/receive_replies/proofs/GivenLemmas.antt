@@ -5,8 +5,8 @@ use Rattle.std.specs.List.{list_any}
 use Rattle.std.proofs.lemmas.Bool.Decides.{nat_tests}
 use Rattle.rm_base.specs.NumberSet.{has_number}
 use Rattle.record_batch.specs.Fact.{Fact}
-use Rattle.sequence_table.specs.Words.{Text}
-use Rattle.sequence_table.specs.Find.{find_incoming}
+use Rattle.record_batch.specs.Sequences.Words.{Text}
+use Rattle.record_batch.specs.Sequences.Find.{find_incoming}
 use Rattle.rm_protocol.specs.Said.{ack_of, ask_ack, ask_acks, given_with}
 
 -- std's search of a slice finds a number exactly where it is one of them

@@ -2,8 +2,8 @@
 ghost use Rattle.std.specs.Prelude.{◌≡◌, ◌++◌, [], ℕ, true, IfOk, OnOk};
 ghost use Rattle.std.specs.Option.{option_copied};
 ghost use Rattle.rm_base.specs.NumberSet.{has_number};
-ghost use Rattle.sequence_table.specs.Find.{acks_to as acks_to_for, find_incoming};
-ghost use Rattle.sequence_table.specs.Fits.{all_fit};
+ghost use Rattle.record_batch.specs.Sequences.Find.{acks_to as acks_to_for, find_incoming};
+ghost use Rattle.record_batch.specs.Sequences.Fits.{all_fit};
 ghost use Rattle.rm_protocol.specs.Said.{
   ack_of,
   acks_said as acks_said_of,

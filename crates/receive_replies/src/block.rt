@@ -1,6 +1,6 @@
 //! The acknowledgement of one sequence, and the block that a fault carries.
 ghost use Rattle.std.specs.Prelude.{◌≡◌, ◌++◌, true, IfOk};
-ghost use Rattle.sequence_table.specs.Fits.{all_fit};
+ghost use Rattle.record_batch.specs.Sequences.Fits.{all_fit};
 ghost use Rattle.rm_protocol.specs.Calls.{
   block_at as block_at_header,
   block_by as block_by_seq,

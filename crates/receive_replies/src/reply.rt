@@ -1,7 +1,7 @@
 //! All that is said to a message without a verdict.
 ghost use Rattle.std.specs.Prelude.{◌≡◌, ◌<◌, ◌^◌, ◌++◌, true, IfOk};
-ghost use Rattle.sequence_table.specs.Fits.{all_fit};
-ghost use Rattle.sequence_table.specs.Makers.{counter, number};
+ghost use Rattle.record_batch.specs.Sequences.Fits.{all_fit};
+ghost use Rattle.record_batch.specs.Sequences.Makers.{counter, number};
 ghost use Rattle.rm_protocol.specs.Said.{said as said_of};
 ghost use Rattle.tables_ahead.specs.Known.{all_records};
 

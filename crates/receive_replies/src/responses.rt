@@ -1,8 +1,8 @@
 //! The responses to a message: WS-ReliableMessaging 1.2, sections 3.4 to 3.6.
 ghost use Rattle.std.specs.Prelude.{◌≡◌, ◌+◌, ◌<◌, ◌^◌, ◌++◌, ◌∷◌, [], codes, true, IfOk};
-ghost use Rattle.sequence_table.specs.Find.{is_taken as is_taken_of};
-ghost use Rattle.sequence_table.specs.Fits.{all_fit};
-ghost use Rattle.sequence_table.specs.Makers.{counter, maker, number};
+ghost use Rattle.record_batch.specs.Sequences.Find.{is_taken as is_taken_of};
+ghost use Rattle.record_batch.specs.Sequences.Fits.{all_fit};
+ghost use Rattle.record_batch.specs.Sequences.Makers.{counter, maker, number};
 ghost use Rattle.node_messages.specs.Homes.{IsHome};
 ghost use Rattle.rm_protocol.specs.Addresses.{reply_endpoint as reply_endpoint_of};
 ghost use Rattle.rm_protocol.specs.Said.{

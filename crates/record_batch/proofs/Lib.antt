@@ -5,3 +5,4 @@ pub mod LoopOfRecords
 pub mod Loops
 pub mod PartLaws
 pub mod RangeLemmas
+pub mod SequencesLemmas

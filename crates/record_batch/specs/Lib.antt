@@ -4,3 +4,5 @@ pub mod Format
 pub mod Parts
 pub mod Refused
 pub mod Writable
+pub mod Sequences
+pub mod Snapshot

@@ -18,3 +18,7 @@ pub use error::BatchError;
 pub use read::read_batch;
 pub use record::{OwnOffer, PeerOffer, Record, Records, Via};
 pub use write::write_batch;
+
+pub mod sequences;
+
+pub mod snapshot;

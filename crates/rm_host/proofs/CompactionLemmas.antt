@@ -15,7 +15,7 @@ use Rattle.node_store.specs.declared.error.RewriteError.{RewriteError}
 use Rattle.node_store.specs.declared.error.RewriteError.TheVariants as rewrite
 use Rattle.record_batch.specs.Batch.{batch_text}
 use Rattle.record_batch.specs.Fact.{Fact}
-use Rattle.record_snapshot.specs.Snapshot.{snapshot}
+use Rattle.record_batch.specs.Snapshot.Snapshot.{snapshot}
 use Rattle.rm_disk.specs.Told.{Told}
 use Rattle.rm_disk.specs.Journal.EntryLemmas.{length-gates_from}
 use Rattle.rm_node.specs.Called.{Sleeps}

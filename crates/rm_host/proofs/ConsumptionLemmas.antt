@@ -36,8 +36,8 @@ use Rattle.rm_protocol.specs.Calls.{consume_in, cursor_to, if_room, on_incoming,
 use Rattle.rm_protocol.specs.Calls.{Refused as RefusedWith}
 use Rattle.rm_protocol.specs.Terms.{Terms}
 use Rattle.rm_protocol.specs.Verdict.{has_room}
-use Rattle.sequence_table.specs.Destinations.{cursor, inbox}
-use Rattle.sequence_table.specs.Makers.{Maker, Outgoing, Offered, Incoming, Taken, maker, makers, makers_of}
+use Rattle.record_batch.specs.Sequences.Destinations.{cursor, inbox}
+use Rattle.record_batch.specs.Sequences.Makers.{Maker, Outgoing, Offered, Incoming, Taken, maker, makers, makers_of}
 use Rattle.rm_host.specs.Compaction.{failed_end}
 use Rattle.rm_host.specs.Consumption.{Consumption, ConsumesItems, MayRecord}
 use Rattle.rm_host.specs.Ends.{Prints, is_disk_end, is_link_end, is_of_call, is_of_input_end, is_outer, is_refusal}

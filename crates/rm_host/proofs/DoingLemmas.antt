@@ -17,7 +17,7 @@ use Rattle.rm_host.specs.ServeSteps.{Serves}
 use Rattle.rm_link.specs.Lines.{Net, is_over}
 use Rattle.node_tables.specs.Reads.{incoming_in}
 use Rattle.record_batch.specs.Fact.{Fact}
-use Rattle.sequence_table.specs.Makers.{makers}
+use Rattle.record_batch.specs.Sequences.Makers.{makers}
 use Rattle.rm_host.specs.Compaction.{Compaction}
 use Rattle.rm_host.specs.Consumption.{Consumption}
 use Rattle.rm_host.specs.Doings.{Calls, Does, DoesAsked, IsObeyed, World, Writes, commanded, ended_status}

@@ -10,7 +10,7 @@ use Rattle.node_store.specs.Stored.{Stored}
 use Rattle.node_store.specs.declared.error.MountError.TheVariants as mount
 use Rattle.node_store.specs.declared.error.RewriteError.{RewriteError}
 use Rattle.node_store.specs.declared.error.RewriteError.TheVariants.{Full}
-use Rattle.record_snapshot.specs.Snapshot.{snapshot}
+use Rattle.record_batch.specs.Snapshot.Snapshot.{snapshot}
 use Rattle.rm_disk.specs.Call.{Call}
 use Rattle.rm_disk.specs.Image.{OnlyLeaves}
 use Rattle.rm_disk.specs.Told.{Told}

@@ -18,7 +18,7 @@ use Rattle.rm_node.specs.Ends.{Ended}
 use Rattle.rm_node.specs.Noded.{Noded}
 use Rattle.rm_protocol.specs.Calls.{cursor_to, consume as consume_answer, Refused as RefusedWith}
 use Rattle.rm_protocol.specs.Terms.{Terms}
-use Rattle.sequence_table.specs.Destinations.{cursor}
+use Rattle.record_batch.specs.Sequences.Destinations.{cursor}
 use Rattle.rm_host.specs.Sequences.{passed_answer}
 use Rattle.rm_host.specs.Texts.{consumed_line}
 use Rattle.rm_host.specs.declared.end.End.{End}

@@ -8,8 +8,8 @@ use Rattle.rm_disk.specs.Told.{Told}
 use Rattle.rm_link.specs.Lines.{Net}
 use Rattle.rm_node.specs.Asked.{Asked, Create, Send, Tick}
 use Rattle.rm_node.specs.declared.packets.Out.{Out}
-use Rattle.sequence_table.specs.Makers.{makers}
-use Rattle.sequence_table.specs.Sources.{accepted_count}
+use Rattle.record_batch.specs.Sequences.Makers.{makers}
+use Rattle.record_batch.specs.Sequences.Sources.{accepted_count}
 use Rattle.rm_serve.specs.Steps.{MakesAll, Place, Step}
 use Rattle.rm_serve.specs.declared.posting.Posted.{Posted}
 use Rattle.rm_host.specs.HostSteps.{CallsNode, CallsOnce, Commands, IsShown, IsTold, all_dialled, back_wish, outs_in}

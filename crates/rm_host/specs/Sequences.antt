@@ -11,7 +11,7 @@ use Rattle.rm_sides.specs.Destination.Messages.{Item}
 use Rattle.rm_sides.specs.Source.Outgoing.{Sending}
 use Rattle.rm_sides.specs.declared.source.phase.OutPhase.{OutPhase}
 use Rattle.rm_sides.specs.declared.source.phase.OutPhase.TheVariants as out
-use Rattle.sequence_table.specs.Makers.{makers}
+use Rattle.record_batch.specs.Sequences.Makers.{makers}
 use Rattle.rm_host.specs.Texts.{item_line}
 use Rattle.rm_host.specs.declared.end.End.{End}
 use Rattle.rm_host.specs.declared.end.End.TheVariants.{Refused}

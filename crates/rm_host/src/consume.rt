@@ -4,7 +4,7 @@ ghost use Rattle.std.specs.Io.KnownBytes.{Appends};
 ghost use Rattle.node_tables.specs.Reads.{incoming_in};
 ghost use Rattle.rm_base.specs.Outside.{AppendsFront};
 ghost use Rattle.rm_sides.specs.Destination.Incoming.{inbox as inbox_in};
-ghost use Rattle.sequence_table.specs.Destinations.{cursor as cursor_in};
+ghost use Rattle.record_batch.specs.Sequences.Destinations.{cursor as cursor_in};
 ghost use Rattle.rm_host.specs.Consumption.{Consumption};
 ghost use Rattle.rm_host.specs.Ends.{HasReason, Prints, faults_of, is_disk_fault, is_link_fault, is_of_input, is_outer};
 ghost use Rattle.rm_host.specs.Sequences.{passed_answer, passed_lines};

@@ -15,11 +15,11 @@ use Rattle.rm_message.specs.declared.refusal.FaultKind.{FaultKind}
 use Rattle.rm_message.specs.declared.refusal.Refusal.{Refusal}
 use Rattle.record_batch.specs.Fact.{Fact, Made, Creating, Created, Granted, Accepted, Acked, Received, Closing}
 use Rattle.record_batch.specs.Fact.{ClosedOut, Closed, Ending, EndedOut, Ended, Failed, Consumed, Dropped, Purged}
-use Rattle.sequence_table.specs.Destinations.{cursor, inbox, is_over}
-use Rattle.sequence_table.specs.Fits.{all_fit, fits as may_follow}
-use Rattle.sequence_table.specs.Makers.{Maker, Outgoing, Offered, Incoming, Taken, counter, maker, makers}
-use Rattle.sequence_table.specs.Sources.{accepted_count, phase}
-use Rattle.sequence_table.specs.Words.{Text}
+use Rattle.record_batch.specs.Sequences.Destinations.{cursor, inbox, is_over}
+use Rattle.record_batch.specs.Sequences.Fits.{all_fit, fits as may_follow}
+use Rattle.record_batch.specs.Sequences.Makers.{Maker, Outgoing, Offered, Incoming, Taken, counter, maker, makers}
+use Rattle.record_batch.specs.Sequences.Sources.{accepted_count, phase}
+use Rattle.record_batch.specs.Sequences.Words.{Text}
 use Rattle.node_tables.specs.Reads.{outgoing_of}
 use Rattle.rm_protocol.specs.Calls.{Answer, Cause, Done, NoSequence, NotOpen, WrongSide, Wish, ask_out}
 use Rattle.rm_protocol.specs.Calls.{adds, close_by, close_in, close_out, consume_in, create, end, end_out, expired_from}

@@ -10,7 +10,7 @@ use Rattle.rm_disk.specs.Call.{Call}
 use Rattle.timers.specs.declared.slots.timers.Key.{Key}
 use Rattle.rm_disk.specs.ImageLemmas.{only_from}
 use Rattle.rm_disk.specs.Journal.JournalState.{end_of}
-use Rattle.sequence_table.specs.Words.{Text}
+use Rattle.record_batch.specs.Sequences.Words.{Text}
 use Rattle.timers.specs.Pending.Waiting.{Pended, Waiting}
 use Rattle.rm_message.specs.declared.message.Message.{Message}
 use Rattle.rm_protocol.specs.Calls.{Answer, Outcome}

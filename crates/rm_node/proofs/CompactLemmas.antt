@@ -6,7 +6,7 @@ use Rattle.rm_disk.specs.Call.{Call}
 use Rattle.rm_disk.specs.Cause.{HasCause}
 use Rattle.rm_disk.specs.Told.{Told}
 use Rattle.record_batch.specs.Fact.{Fact}
-use Rattle.record_snapshot.specs.Snapshot.{snapshot}
+use Rattle.record_batch.specs.Snapshot.Snapshot.{snapshot}
 use Rattle.rm_protocol.specs.Calls.{Done, StoreFull}
 use Rattle.rm_protocol.specs.Exact.{StaysExactInShort}
 use Rattle.node_laws.specs.Snapshots.Kept.{KeptHasProper, SnapshotIsKept}

@@ -3,7 +3,7 @@ use Rattle.std.proofs.Common.{◌≡◌, ◌∙◌, Option, refl, ap}
 use Rattle.std.specs.Prelude.{Ok}
 use Rattle.timers.specs.Pending.Waiting.{Waiting}
 use Rattle.rm_message.specs.declared.message.Message.{Message}
-use Rattle.sequence_table.specs.Words.{Text}
+use Rattle.record_batch.specs.Sequences.Words.{Text}
 use Rattle.rm_protocol.specs.Calls.{Answer, Outcome, Done, Judged, Refused}
 use Rattle.rm_protocol.specs.Polls.{awaited, fetches, polls, selected, selected_by}
 use Rattle.rm_node.specs.Fetching.{if_taken}

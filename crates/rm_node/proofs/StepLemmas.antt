@@ -5,7 +5,7 @@ use Rattle.rm_disk.specs.Cause.{HasCause}
 use Rattle.rm_disk.specs.Told.{Told}
 use Rattle.rm_message.specs.declared.message.Message.{Message}
 use Rattle.rm_message.specs.declared.refusal.FaultKind.{FaultKind}
-use Rattle.sequence_table.specs.Words.{Text}
+use Rattle.record_batch.specs.Sequences.Words.{Text}
 use Rattle.rm_protocol.specs.Calls.{Answer, Done, Outcome}
 use Rattle.rm_protocol.specs.Terms.{Terms}
 use Rattle.node_laws.specs.OwnTerms.{AreOwn, ThereAreOwnTerms}

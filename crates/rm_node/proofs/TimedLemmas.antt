@@ -20,7 +20,7 @@ use Rattle.node_laws.specs.Records.{HasRoomForKeys, IsKept}
 use Rattle.rm_protocol.specs.Exact.{AreExactly, IsExactAtFirst, StaysExact}
 use Rattle.rm_protocol.specs.Calls.{Answer}
 use Rattle.record_batch.specs.Fact.{Fact}
-use Rattle.sequence_table.specs.Fits.{all_fit}
+use Rattle.record_batch.specs.Sequences.Fits.{all_fit}
 use Rattle.timers.specs.Pending.Waiting.{Waiting}
 use Rattle.rm_message.specs.declared.message.Message.{Message}
 use Rattle.rm_protocol.specs.Polls.{polled_after}

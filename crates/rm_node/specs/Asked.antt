@@ -5,7 +5,7 @@ use Rattle.rm_base.specs.Text.{IsText}
 use Rattle.record_batch.specs.Fact.{Fact}
 use Rattle.rm_message.specs.declared.message.Message.{Message}
 use Rattle.rm_message.specs.declared.refusal.Refusal.{Refusal}
-use Rattle.sequence_table.specs.Words.{Text}
+use Rattle.record_batch.specs.Sequences.Words.{Text}
 use Rattle.rm_protocol.specs.Calls as protocol
 use Rattle.rm_protocol.specs.Calls.{Answer, Wish}
 use Rattle.rm_protocol.specs.Polls as polled

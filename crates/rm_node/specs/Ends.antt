@@ -1,7 +1,7 @@
 -- How calls of a node end.
 use Rattle.std.specs.Prelude.{Bool, true, false, List, [], Option, Some, None, Result, Ok, Err}
 use Rattle.rm_message.specs.declared.refusal.FaultKind.{FaultKind}
-use Rattle.sequence_table.specs.Words.{Text}
+use Rattle.record_batch.specs.Sequences.Words.{Text}
 use Rattle.rm_protocol.specs.Calls.{Cause, Outcome, Done, Judged, Refused as RefusedWith}
 use Rattle.node_laws.specs.Answers.Answers.{cause_seen}
 use Rattle.rm_node.specs.declared.calls.Made.{Made}

@@ -1,6 +1,6 @@
 -- An answer with the message that it fetches.
 use Rattle.std.specs.Prelude.{Option, None}
-use Rattle.sequence_table.specs.Words.{Text}
+use Rattle.record_batch.specs.Sequences.Words.{Text}
 use Rattle.rm_protocol.specs.Calls.{Answer, Done, Outcome}
 use Rattle.node_laws.specs.Answers.Answers.{seen}
 use Rattle.node_waits.specs.Fetched.{fetched_seen}

@@ -8,8 +8,8 @@ use Rattle.timers.specs.declared.keys.cells.Cell.{Cell}
 use Rattle.timers.specs.Keys.Keyed.{Keyed, StandsFor, slot_at}
 use Rattle.timers.specs.Keys.Waits.{Wait}
 use Rattle.record_batch.specs.Fact.{Fact}
-use Rattle.sequence_table.specs.Makers.{Maker, Outgoing, Taken, maker, makers}
-use Rattle.sequence_table.specs.Sources.{accepted_count}
+use Rattle.record_batch.specs.Sequences.Makers.{Maker, Outgoing, Taken, maker, makers}
+use Rattle.record_batch.specs.Sequences.Sources.{accepted_count}
 use Rattle.rm_protocol.specs.Calls.{Answer}
 use Rattle.rm_protocol.specs.Waiting.{begun_by, is_waiting, key}
 use Rattle.node_laws.specs.Keeps.{LeavesANode}

@@ -1,7 +1,7 @@
 //! The key that begins to wait with a call.
 ghost use Rattle.std.specs.Prelude.{◌≡◌, ◌+◌, length};
-ghost use Rattle.sequence_table.specs.Makers.{maker, makers};
-ghost use Rattle.sequence_table.specs.Sources.{accepted_count};
+ghost use Rattle.record_batch.specs.Sequences.Makers.{maker, makers};
+ghost use Rattle.record_batch.specs.Sequences.Sources.{accepted_count};
 ghost use Rattle.rm_protocol.specs.Waiting.{key as key_of};
 ghost use Rattle.node_laws.specs.Records.{IsKept};
 ghost use Rattle.rm_node.specs.Asked.{Asked, Asks};

@@ -2,9 +2,9 @@
 ghost use Rattle.std.specs.Prelude.{◌≡◌, ◌⊎◌, ◌+◌, ◌≤◌, true, length, IfErr, IfOk};
 ghost use Rattle.rm_base.specs.Limits.{now_max};
 ghost use Rattle.rm_message.specs.Elements.Writable.{IsLapseWritable};
-ghost use Rattle.sequence_table.specs.Fits.{is_outgoing_side};
-ghost use Rattle.sequence_table.specs.Makers.{maker, makers};
-ghost use Rattle.sequence_table.specs.Sources.{accepted_count};
+ghost use Rattle.record_batch.specs.Sequences.Fits.{is_outgoing_side};
+ghost use Rattle.record_batch.specs.Sequences.Makers.{maker, makers};
+ghost use Rattle.record_batch.specs.Sequences.Sources.{accepted_count};
 ghost use Rattle.rm_node.specs.Called.{HasBatches, Steps};
 ghost use Rattle.rm_node.specs.declared.call.Call.TheVariants.{
   Create as Creates,

@@ -7,10 +7,10 @@ use Rattle.std.proofs.lemmas.List.{map-append}
 use Rattle.std.proofs.lemmas.List.Concat.{flat_map-append}
 use Rattle.rm_base.specs.Numbered.{numbered}
 use Rattle.record_batch.specs.Fact.{Fact, Creating, Created, Granted}
-use Rattle.sequence_table.specs.Words.{Text}
-use Rattle.sequence_table.specs.Makers.{Maker, Incoming, Taken, makers, makers_of, draws_of, counter, created}
-use Rattle.sequence_table.specs.Makers.{created_of, ident_in, seq_in}
-use Rattle.sequence_table.specs.Find.{acks_to}
+use Rattle.record_batch.specs.Sequences.Words.{Text}
+use Rattle.record_batch.specs.Sequences.Makers.{Maker, Incoming, Taken, makers, makers_of, draws_of, counter, created}
+use Rattle.record_batch.specs.Sequences.Makers.{created_of, ident_in, seq_in}
+use Rattle.record_batch.specs.Sequences.Find.{acks_to}
 use Rattle.rm_protocol.specs.Sound.{Justified, Rises, highest, drawn, Owns, Agree, Fresh, Allows}
 use Rattle.rm_protocol.proofs.ListLemmas.{numbered-append, numbered-last, numbered-within, All-weaker, All-push}
 use Rattle.rm_protocol.proofs.ListLemmas.{Rises-append, highest-append, ident_in-append, ident_in-push}

@@ -20,22 +20,23 @@ use Rattle.record_batch.specs.declared.record.Via.{Via}
 use Rattle.record_batch.specs.Fact.{Fact, Creating, Granted, Accepted, Closing, ClosedOut, Closed, Ending}
 use Rattle.record_batch.specs.Fact.{EndedOut, Ended, Failed, Consumed}
 use Rattle.rm_sides.specs.Destination.Messages.{is_empty}
-use Rattle.sequence_table.specs.Words.{Text, at_seq, last_or}
-use Rattle.sequence_table.specs.Idents.{issue}
-use Rattle.sequence_table.specs.Makers.{Maker, Outgoing, Offered, Incoming, Taken, makers, makers_of, maker, counter}
-use Rattle.sequence_table.specs.Makers.{number, address}
-use Rattle.sequence_table.specs.Sources.{accepted_count, mark_of, marks, out_ident, phase}
-use Rattle.sequence_table.specs.Destinations.{cursor, has_end, inbox, is_over}
-use Rattle.sequence_table.specs.Find.{acks_to, peer}
+use Rattle.record_batch.specs.Sequences.Words.{Text, at_seq, last_or}
+use Rattle.record_batch.specs.Sequences.Idents.{issue}
+use Rattle.record_batch.specs.Sequences.Makers.{Maker, Outgoing, Offered, Incoming, Taken, makers, makers_of, maker}
+use Rattle.record_batch.specs.Sequences.Makers.{counter}
+use Rattle.record_batch.specs.Sequences.Makers.{number, address}
+use Rattle.record_batch.specs.Sequences.Sources.{accepted_count, mark_of, marks, out_ident, phase}
+use Rattle.record_batch.specs.Sequences.Destinations.{cursor, has_end, inbox, is_over}
+use Rattle.record_batch.specs.Sequences.Find.{acks_to, peer}
 use Rattle.rm_protocol.specs.Sound.{SaysCreate, Says, IsAsked, IsIssuedBy, IsWith, Owns, Allows, Keeps, AreWith}
 use Rattle.rm_protocol.specs.Sound.{asked_with, drawn, highest}
 use Rattle.std.specs.Prelude.{Result, Ok, Err}
 use Rattle.std.specs.Option.{option_to_list}
 use Rattle.rm_message.specs.declared.refusal.FaultKind.{FaultKind}
 use Rattle.rm_message.specs.declared.refusal.Refusal.{Refusal}
-use Rattle.sequence_table.specs.Sources.{first_phase, all_unacked, unacked}
+use Rattle.record_batch.specs.Sequences.Sources.{first_phase, all_unacked, unacked}
 use Rattle.rm_sides.specs.Destination.Incoming.{is_past}
-use Rattle.sequence_table.specs.Destinations.{deadline_of}
+use Rattle.record_batch.specs.Sequences.Destinations.{deadline_of}
 use Rattle.rm_protocol.specs.Calls.{Answer, Cause, NoSequence, WrongSide, NotOpen, PayloadTooLong, BadPayload}
 use Rattle.rm_protocol.specs.Calls.{WindowFull, NodeFull, Rollover, StoreFull, TooManySequences, refusal, adds}
 use Rattle.rm_protocol.specs.Calls.{if_room, Wish, offer_of, wanted, create, is_open, send_out, on_outgoing, send}

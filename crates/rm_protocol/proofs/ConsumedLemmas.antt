@@ -17,12 +17,13 @@ use Rattle.rm_base.specs.declared.message.Payload.{Payload}
 use Rattle.record_batch.specs.Fact.{Fact, Received, Closed, Ended}
 use Rattle.rm_sides.specs.Destination.Incoming.{inbox_of}
 use Rattle.rm_sides.specs.Destination.Messages.{contents_of, is_empty, sorted_onto, with_message, without_gap}
-use Rattle.sequence_table.specs.Words.{at_seq}
-use Rattle.sequence_table.specs.Makers.{Maker, makers, makers_of, maker}
-use Rattle.sequence_table.specs.Destinations.{behaviour, behaviour_of, close_of, closes, cursor, cursor_of, held}
-use Rattle.sequence_table.specs.Destinations.{is_stopped, received, received_of, released, told, told_of}
-use Rattle.sequence_table.specs.Fits.{fits, all_fit, is_incoming_side}
-use Rattle.sequence_table.specs.GatherLemmas.{at_seq-more, flat_map-more, greatest_of-append}
+use Rattle.record_batch.specs.Sequences.Words.{at_seq}
+use Rattle.record_batch.specs.Sequences.Makers.{Maker, makers, makers_of, maker}
+use Rattle.record_batch.specs.Sequences.Destinations.{behaviour, behaviour_of, close_of, closes, cursor, cursor_of}
+use Rattle.record_batch.specs.Sequences.Destinations.{held}
+use Rattle.record_batch.specs.Sequences.Destinations.{is_stopped, received, received_of, released, told, told_of}
+use Rattle.record_batch.specs.Sequences.Fits.{fits, all_fit, is_incoming_side}
+use Rattle.record_batch.specs.Sequences.GatherLemmas.{at_seq-more, flat_map-more, greatest_of-append}
 use Rattle.rm_protocol.specs.Consumed.{GoesOn}
 use Rattle.rm_protocol.specs.Sound.{Agree, Allows, IfWith, IsSourced, Justified, Keeps}
 use Rattle.rm_protocol.specs.Word.{IsPrefixOf, consumed}

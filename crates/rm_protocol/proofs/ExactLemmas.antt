@@ -15,17 +15,18 @@ use Rattle.timers.specs.Keys.Waits.{begin_all}
 use Rattle.timers.specs.Keys.KeyLemmas.{same_key-is, same_key-refl, same_key-sym}
 use Rattle.timers.specs.Keys.Waits.{urge_all, send_all, emitted, put_into, fresh}
 use Rattle.record_batch.specs.Fact.{Fact}
-use Rattle.record_snapshot.specs.AckedLemmas.{acked-within}
-use Rattle.record_snapshot.specs.Same.{SaysTheSame, SnapshotSaysTheSame}
-use Rattle.record_snapshot.specs.Snapshot.{snapshot}
+use Rattle.record_batch.specs.Snapshot.AckedLemmas.{acked-within}
+use Rattle.record_batch.specs.Snapshot.Same.{SaysTheSame, SnapshotSaysTheSame}
+use Rattle.record_batch.specs.Snapshot.Snapshot.{snapshot}
 use Rattle.rm_base.specs.Numbered.{numbered}
-use Rattle.sequence_table.specs.Makers.{Maker, Outgoing, Offered, Incoming, Taken, makers, maker}
-use Rattle.sequence_table.specs.Sources.{accepted_count, acked, first_phase, is_sending, marks, out_ident, phase}
-use Rattle.sequence_table.specs.Words.{at_seq, last_or}
-use Rattle.sequence_table.specs.Makers.{ident_in}
+use Rattle.record_batch.specs.Sequences.Makers.{Maker, Outgoing, Offered, Incoming, Taken, makers, maker}
+use Rattle.record_batch.specs.Sequences.Sources.{accepted_count, acked, first_phase, is_sending, marks, out_ident}
+use Rattle.record_batch.specs.Sequences.Sources.{phase}
+use Rattle.record_batch.specs.Sequences.Words.{at_seq, last_or}
+use Rattle.record_batch.specs.Sequences.Makers.{ident_in}
 use Rattle.rm_sides.specs.Source.Outgoing.{Sending, accepted_count as count_of}
-use Rattle.sequence_table.specs.Fits.{fits, all_fit}
-use Rattle.sequence_table.specs.Told.{sending}
+use Rattle.record_batch.specs.Sequences.Fits.{fits, all_fit}
+use Rattle.record_batch.specs.Sequences.Told.{sending}
 use Rattle.rm_protocol.specs.FitInduction.{creating-accepts-none}
 use Rattle.rm_protocol.proofs.RangeLemmas.{canonical-has}
 use Rattle.rm_protocol.proofs.WaitingLemmas.{one-begins, united-keeps, with_range-adds}

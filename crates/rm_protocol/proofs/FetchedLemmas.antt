@@ -6,7 +6,7 @@ use Rattle.timers.specs.Pending.Waiting.{Queue, Waiting}
 use Rattle.rm_message.specs.declared.message.Message.{Message}
 use Rattle.rm_message.specs.declared.refusal.Refusal.{Refusal}
 use Rattle.record_batch.specs.Fact.{Fact}
-use Rattle.sequence_table.specs.Words.{Text}
+use Rattle.record_batch.specs.Sequences.Words.{Text}
 use Rattle.rm_protocol.specs.Calls.{Answer}
 use Rattle.rm_protocol.specs.Sound.{SaysBlock, Says, AreSaid}
 use Rattle.rm_protocol.specs.Terms.{Terms}

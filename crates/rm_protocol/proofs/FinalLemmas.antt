@@ -4,9 +4,9 @@ use Rattle.std.proofs.lemmas.Bool.{eq-eqb}
 use Rattle.rm_sides.specs.declared.source.phase.OutPhase.{OutPhase}
 use Rattle.rm_sides.specs.declared.source.phase.OutPhase.TheVariants as out
 use Rattle.record_batch.specs.Fact.{Fact, ClosedOut}
-use Rattle.sequence_table.specs.Words.{last_or}
-use Rattle.sequence_table.specs.Sources.{first_phase, mark_of, marks, out_ident, phase}
-use Rattle.sequence_table.specs.GatherLemmas.{at_seq-more, last_or-append}
+use Rattle.record_batch.specs.Sequences.Words.{last_or}
+use Rattle.record_batch.specs.Sequences.Sources.{first_phase, mark_of, marks, out_ident, phase}
+use Rattle.record_batch.specs.Sequences.GatherLemmas.{at_seq-more, last_or-append}
 use Rattle.rm_protocol.specs.Recorded.{FinalCloses}
 use Rattle.rm_protocol.specs.Rows.{final_at, final_row}
 

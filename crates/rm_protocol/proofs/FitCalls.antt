@@ -37,19 +37,21 @@ use Rattle.record_batch.specs.Fact.{Received}
 use Rattle.record_batch.specs.Fact.{Closed, Ending, EndedOut, Ended, Failed, Consumed}
 use Rattle.record_batch.specs.declared.record.PeerOffer.{PeerOffer}
 use Rattle.record_batch.specs.declared.record.Via.{Via}
-use Rattle.sequence_table.specs.Words.{Text, at_seq, last_or}
-use Rattle.sequence_table.specs.Makers.{Maker, Outgoing, Offered, Incoming, Taken, makers, makers_of, maker, created}
-use Rattle.sequence_table.specs.Makers.{created_of, seq_in, counter}
-use Rattle.sequence_table.specs.Sources.{accepted, accepted_count, accepted_of, acked, all_unacked, dropped, dropped_of}
-use Rattle.sequence_table.specs.Sources.{is_sending, out_ident, phase, unacked}
-use Rattle.sequence_table.specs.Find.{find_incoming, find_outgoing, find_creating, find_grant, is_granted}
-use Rattle.sequence_table.specs.Find.{is_offered, find_from, peer}
-use Rattle.sequence_table.specs.Fits.{is_outgoing_side, is_incoming_side, follows, follows_at, is_up_to, fits}
-use Rattle.sequence_table.specs.Fits.{all_fit, is_no_moment, offer_fits, has_places}
+use Rattle.record_batch.specs.Sequences.Words.{Text, at_seq, last_or}
+use Rattle.record_batch.specs.Sequences.Makers.{Maker, Outgoing, Offered, Incoming, Taken, makers, makers_of, maker}
+use Rattle.record_batch.specs.Sequences.Makers.{created}
+use Rattle.record_batch.specs.Sequences.Makers.{created_of, seq_in, counter}
+use Rattle.record_batch.specs.Sequences.Sources.{accepted, accepted_count, accepted_of, acked, all_unacked, dropped}
+use Rattle.record_batch.specs.Sequences.Sources.{dropped_of}
+use Rattle.record_batch.specs.Sequences.Sources.{is_sending, out_ident, phase, unacked}
+use Rattle.record_batch.specs.Sequences.Find.{find_incoming, find_outgoing, find_creating, find_grant, is_granted}
+use Rattle.record_batch.specs.Sequences.Find.{is_offered, find_from, peer}
+use Rattle.record_batch.specs.Sequences.Fits.{is_outgoing_side, is_incoming_side, follows, follows_at, is_up_to, fits}
+use Rattle.record_batch.specs.Sequences.Fits.{all_fit, is_no_moment, offer_fits, has_places}
 use Rattle.rm_sides.specs.Destination.Incoming.{is_past}
 use Rattle.rm_sides.specs.Destination.Messages.{any_true}
-use Rattle.sequence_table.specs.Destinations.{held, front, close_of, closes, is_stopped, has_end}
-use Rattle.sequence_table.specs.Destinations.{cursor, inbox, is_over, is_ended, deadline_of}
+use Rattle.record_batch.specs.Sequences.Destinations.{held, front, close_of, closes, is_stopped, has_end}
+use Rattle.record_batch.specs.Sequences.Destinations.{cursor, inbox, is_over, is_ended, deadline_of}
 use Rattle.rm_protocol.specs.Verdict.{tests, is_above, verdict, has_room, is_invalid, is_invalid_at, refuses_create}
 use Rattle.rm_protocol.specs.Addresses.{is_nowhere}
 use Rattle.rm_protocol.specs.Calls.{Answer, Cause, NotOpen, PayloadTooLong, BadPayload, WindowFull, NodeFull}

@@ -14,13 +14,15 @@ use Rattle.rm_sides.specs.declared.source.phase.OutPhase.{OutPhase}
 use Rattle.rm_sides.specs.declared.source.phase.OutPhase.TheVariants as out
 use Rattle.record_batch.specs.Fact.{Fact, Created, Granted, ClosedOut}
 use Rattle.rm_sides.specs.Destination.Messages.{is_empty}
-use Rattle.sequence_table.specs.Words.{Text, last_or}
-use Rattle.sequence_table.specs.Idents.{issue}
-use Rattle.sequence_table.specs.Makers.{Maker, Outgoing, Offered, Incoming, Taken, makers, makers_of, maker, number}
-use Rattle.sequence_table.specs.Makers.{created, created_of, seq_in}
-use Rattle.sequence_table.specs.Sources.{first_phase, is_sending, marks, out_ident, phase}
-use Rattle.sequence_table.specs.Find.{find_incoming, find_outgoing, find_creating, is_incoming, is_creating}
-use Rattle.sequence_table.specs.Fits.{is_outgoing_side, is_incoming_side, follows, follows_at, is_up_to, fits, all_fit}
+use Rattle.record_batch.specs.Sequences.Words.{Text, last_or}
+use Rattle.record_batch.specs.Sequences.Idents.{issue}
+use Rattle.record_batch.specs.Sequences.Makers.{Maker, Outgoing, Offered, Incoming, Taken, makers, makers_of, maker}
+use Rattle.record_batch.specs.Sequences.Makers.{number}
+use Rattle.record_batch.specs.Sequences.Makers.{created, created_of, seq_in}
+use Rattle.record_batch.specs.Sequences.Sources.{first_phase, is_sending, marks, out_ident, phase}
+use Rattle.record_batch.specs.Sequences.Find.{find_incoming, find_outgoing, find_creating, is_incoming, is_creating}
+use Rattle.record_batch.specs.Sequences.Fits.{is_outgoing_side, is_incoming_side, follows, follows_at, is_up_to, fits}
+use Rattle.record_batch.specs.Sequences.Fits.{all_fit}
 use Rattle.rm_protocol.specs.Verdict.{is_above}
 use Rattle.rm_protocol.proofs.ListLemmas.{All-weaker, All-append, find-is, numbered-append}
 use Rattle.rm_protocol.proofs.Growth.{created-add}

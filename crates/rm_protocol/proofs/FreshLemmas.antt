@@ -4,10 +4,10 @@ use Rattle.std.proofs.Common.{sym, ap, ◌∙◌, arith, subst, inl, inr}
 use Rattle.std.proofs.lemmas.Bool.{and_parts, cases_Bool, leb-true}
 use Rattle.rm_base.specs.Limits.{journal_bytes}
 use Rattle.record_batch.specs.Fact.{Fact, Acked}
-use Rattle.record_snapshot.specs.FrameLemmas.{same_frame}
-use Rattle.record_snapshot.specs.Same.{HasProper, HaveProper, SnapshotFits, SnapshotIsProper, SnapshotKeepsAll}
-use Rattle.record_snapshot.specs.Snapshot.{snapshot}
-use Rattle.sequence_table.specs.Makers.{counter}
+use Rattle.record_batch.specs.Snapshot.FrameLemmas.{same_frame}
+use Rattle.record_batch.specs.Snapshot.Same.{HasProper, HaveProper, SnapshotFits, SnapshotIsProper, SnapshotKeepsAll}
+use Rattle.record_batch.specs.Snapshot.Snapshot.{snapshot}
+use Rattle.record_batch.specs.Sequences.Makers.{counter}
 use Rattle.rm_protocol.specs.AloneLemmas.{drawn-alone, records-alone}
 use Rattle.rm_protocol.specs.Compact.{fit_as_entries, fits_before, fresh_start, list_size, may_compact}
 use Rattle.rm_protocol.specs.Node.{Node, records_in, fresh_entries, end_of, node_end}

@@ -13,11 +13,11 @@ use Rattle.rm_message.specs.declared.refusal.FaultKind.{FaultKind}
 use Rattle.rm_message.specs.declared.refusal.Refusal.{Refusal}
 use Rattle.record_batch.specs.Fact.{Fact, Creating, Accepted, Closing, Closed, Consumed, Ending, Ended}
 use Rattle.rm_sides.specs.Destination.Incoming.{is_past}
-use Rattle.sequence_table.specs.Makers.{Maker, Outgoing, Offered, Incoming, Taken, counter, maker, makers}
-use Rattle.sequence_table.specs.Sources.{accepted_count, all_unacked, phase, unacked, out_ident}
-use Rattle.sequence_table.specs.Destinations.{cursor, deadline_of, has_end, inbox, is_over}
-use Rattle.sequence_table.specs.Find.{peer}
-use Rattle.sequence_table.specs.Words.{Text}
+use Rattle.record_batch.specs.Sequences.Makers.{Maker, Outgoing, Offered, Incoming, Taken, counter, maker, makers}
+use Rattle.record_batch.specs.Sequences.Sources.{accepted_count, all_unacked, phase, unacked, out_ident}
+use Rattle.record_batch.specs.Sequences.Destinations.{cursor, deadline_of, has_end, inbox, is_over}
+use Rattle.record_batch.specs.Sequences.Find.{peer}
+use Rattle.record_batch.specs.Sequences.Words.{Text}
 use Rattle.timers.specs.Keys.Waits.{first_due}
 use Rattle.rm_protocol.specs.Calls.{Answer, Cause, StoreFull, NotOpen, PayloadTooLong}
 use Rattle.rm_protocol.specs.Calls.{BadPayload, WindowFull, NodeFull, Rollover, TooManySequences, PastInbox, Wish}

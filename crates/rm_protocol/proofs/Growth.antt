@@ -21,15 +21,17 @@ use Rattle.rm_message.specs.declared.message.Message.{Message}
 use Rattle.record_batch.specs.declared.record.PeerOffer.{PeerOffer}
 use Rattle.record_batch.specs.Fact.{Fact, Made, Created, Granted, Accepted, Acked, Received, Closed, Ended}
 use Rattle.rm_sides.specs.Destination.Messages.{is_empty, numbers_of}
-use Rattle.sequence_table.specs.Words.{Text, at_seq, first_or}
-use Rattle.sequence_table.specs.Idents.{issue}
-use Rattle.sequence_table.specs.Makers.{Maker, Outgoing, Offered, Incoming, Taken, makers, makers_of, maker, counter}
-use Rattle.sequence_table.specs.Makers.{nodes_of, number, addresses_of, address, created, created_of, created_from}
-use Rattle.sequence_table.specs.Makers.{draws_of}
-use Rattle.sequence_table.specs.Makers.{ident_in}
-use Rattle.sequence_table.specs.Sources.{accepted, accepted_of, mark_of, marks}
-use Rattle.sequence_table.specs.Destinations.{received, received_of, behaviour}
-use Rattle.sequence_table.specs.Find.{IsOutgoing, IsIncoming, incoming_of, acks_to}
+use Rattle.record_batch.specs.Sequences.Words.{Text, at_seq, first_or}
+use Rattle.record_batch.specs.Sequences.Idents.{issue}
+use Rattle.record_batch.specs.Sequences.Makers.{Maker, Outgoing, Offered, Incoming, Taken, makers, makers_of, maker}
+use Rattle.record_batch.specs.Sequences.Makers.{counter}
+use Rattle.record_batch.specs.Sequences.Makers.{nodes_of, number, addresses_of, address, created, created_of}
+use Rattle.record_batch.specs.Sequences.Makers.{created_from}
+use Rattle.record_batch.specs.Sequences.Makers.{draws_of}
+use Rattle.record_batch.specs.Sequences.Makers.{ident_in}
+use Rattle.record_batch.specs.Sequences.Sources.{accepted, accepted_of, mark_of, marks}
+use Rattle.record_batch.specs.Sequences.Destinations.{received, received_of, behaviour}
+use Rattle.record_batch.specs.Sequences.Find.{IsOutgoing, IsIncoming, incoming_of, acks_to}
 use Rattle.rm_protocol.specs.Sound.{IsAsked, IsAccepted, IsHeld, IsGranted, HasAsked, AreHeld, IsFinal, SaysData}
 use Rattle.rm_protocol.specs.Sound.{SaysBlock, SaysCreate, SaysName, SaysPlace, SaysResponse, SaysFinal, Says}
 use Rattle.rm_protocol.specs.Sound.{IsAgreed, IsRequest}

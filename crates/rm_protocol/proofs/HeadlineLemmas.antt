@@ -16,22 +16,23 @@ use Rattle.rm_base.specs.declared.message.Payload.{Payload}
 use Rattle.record_batch.specs.Fact.{Fact, Created, Granted, Acked, Received, Closed, Ended, Dropped}
 use Rattle.rm_sides.specs.Destination.Messages.{is_empty, sorted_onto, with_message, without_gap, numbers_of}
 use Rattle.rm_sides.specs.Destination.Messages.{contents_of}
-use Rattle.sequence_table.specs.Words.{Text}
-use Rattle.sequence_table.specs.Idents.{issue}
-use Rattle.sequence_table.specs.Makers.{Maker, Outgoing, Offered, Incoming, Taken, makers, makers_of, maker, counter}
-use Rattle.sequence_table.specs.Makers.{number, created_from, ident_in}
-use Rattle.sequence_table.specs.Sources.{accepted, acked, marks}
+use Rattle.record_batch.specs.Sequences.Words.{Text}
+use Rattle.record_batch.specs.Sequences.Idents.{issue}
+use Rattle.record_batch.specs.Sequences.Makers.{Maker, Outgoing, Offered, Incoming, Taken, makers, makers_of, maker}
+use Rattle.record_batch.specs.Sequences.Makers.{counter}
+use Rattle.record_batch.specs.Sequences.Makers.{number, created_from, ident_in}
+use Rattle.record_batch.specs.Sequences.Sources.{accepted, acked, marks}
 use Rattle.rm_sides.specs.Destination.Incoming.{inbox_of, is_loose}
-use Rattle.sequence_table.specs.Destinations.{received, received_of, told, behaviour}
+use Rattle.record_batch.specs.Sequences.Destinations.{received, received_of, told, behaviour}
 use Rattle.rm_sides.specs.Destination.Incoming.{is_whole, is_whole_by, last_number as last_told}
-use Rattle.sequence_table.specs.Destinations.{texts}
-use Rattle.sequence_table.specs.Find.{IsOutgoing, IsIncoming, incoming_of}
+use Rattle.record_batch.specs.Sequences.Destinations.{texts}
+use Rattle.record_batch.specs.Sequences.Find.{IsOutgoing, IsIncoming, incoming_of}
 use Rattle.rm_protocol.specs.Sound.{IsHeld, IsGranted, IsAgreed, IsSourced, AreKept, IsTold, IsWith, IfWith}
 use Rattle.rm_protocol.specs.Sound.{Justified, highest, drawn, Owns, Agree, AreWith, NothingIsGone}
 use Rattle.std.proofs.Common.{◌^◌, drop}
 use Rattle.rm_base.specs.NumberSet.{greatest_of}
 use Rattle.rm_base.specs.declared.message.Behaviour.TheVariants.{NoDiscard, EntireSequence, FollowingFirstGap}
-use Rattle.sequence_table.specs.Idents.{IssuesOnce}
+use Rattle.record_batch.specs.Sequences.Idents.{IssuesOnce}
 use Rattle.rm_protocol.specs.Word.{IsItemOf, IsPrefixOf, KeepsWholeWord, Matches}
 use Rattle.rm_protocol.proofs.ListLemmas.{All-append, All-numbered, numbered-next, numbered-map, numbered-within}
 use Rattle.rm_protocol.proofs.ListLemmas.{Rises-unique, Rises-below}

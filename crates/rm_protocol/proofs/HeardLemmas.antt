@@ -22,11 +22,11 @@ use Rattle.rm_message.specs.declared.message.Message.{Message}
 use Rattle.wsa_headers.specs.declared.endpoint.Epr.{Epr}
 use Rattle.record_batch.specs.declared.record.PeerOffer.{PeerOffer}
 use Rattle.record_batch.specs.Fact.{Fact, Acked, Received, ClosedOut, Closed, Ended}
-use Rattle.sequence_table.specs.Words.{Text}
-use Rattle.sequence_table.specs.Makers.{maker, makers}
-use Rattle.sequence_table.specs.Sources.{acked, is_sending, phase}
-use Rattle.sequence_table.specs.Destinations.{held, front, has_end, is_ended, is_over}
-use Rattle.sequence_table.specs.Find.{find_incoming, find_outgoing, find_grant, find_creating, is_offered}
+use Rattle.record_batch.specs.Sequences.Words.{Text}
+use Rattle.record_batch.specs.Sequences.Makers.{maker, makers}
+use Rattle.record_batch.specs.Sequences.Sources.{acked, is_sending, phase}
+use Rattle.record_batch.specs.Sequences.Destinations.{held, front, has_end, is_ended, is_over}
+use Rattle.record_batch.specs.Sequences.Find.{find_incoming, find_outgoing, find_grant, find_creating, is_offered}
 use Rattle.rm_sides.specs.Ranges.Changes.{covers_all, united}
 use Rattle.soap_document.specs.Profile.Tree.{Element}
 use Rattle.soap_document.specs.declared.profile.name.Expanded.{Expanded}

@@ -7,19 +7,20 @@ use Rattle.std.proofs.lemmas.List.{take-append-drop}
 use Rattle.rm_base.specs.NumberSet.{has_number}
 use Rattle.rm_base.specs.declared.message.Payload.{Payload}
 use Rattle.record_batch.specs.Fact.{Fact}
-use Rattle.record_snapshot.specs.FactLemmas.{behaviour_same, not-ordered}
-use Rattle.record_snapshot.specs.PastLemmas.{from-one, held-whole, inbox-past}
-use Rattle.record_snapshot.specs.Same.{AreNumbers, gone_count}
+use Rattle.record_batch.specs.Snapshot.FactLemmas.{behaviour_same, not-ordered}
+use Rattle.record_batch.specs.Snapshot.PastLemmas.{from-one, held-whole, inbox-past}
+use Rattle.record_batch.specs.Snapshot.Same.{AreNumbers, gone_count}
 use Rattle.rm_base.specs.Numbered.{numbered}
 use Rattle.rm_sides.specs.Destination.Incoming.{is_loose}
 use Rattle.rm_sides.specs.Destination.LooseLemmas.{inbox_of-loose}
 use Rattle.rm_sides.specs.Destination.Messages.{AreOnce, contents_of, is_empty, numbers_of}
-use Rattle.sequence_table.specs.Words.{Text, at_seq}
-use Rattle.sequence_table.specs.Idents.{IssuesOnce}
-use Rattle.sequence_table.specs.Makers.{counter, maker}
-use Rattle.sequence_table.specs.Sources.{accepted}
-use Rattle.sequence_table.specs.Destinations.{behaviour, behaviour_of, cursor, inbox, purged, received, released, texts}
-use Rattle.sequence_table.specs.Destinations.{told}
+use Rattle.record_batch.specs.Sequences.Words.{Text, at_seq}
+use Rattle.record_batch.specs.Sequences.Idents.{IssuesOnce}
+use Rattle.record_batch.specs.Sequences.Makers.{counter, maker}
+use Rattle.record_batch.specs.Sequences.Sources.{accepted}
+use Rattle.record_batch.specs.Sequences.Destinations.{behaviour, behaviour_of, cursor, inbox, purged, received}
+use Rattle.record_batch.specs.Sequences.Destinations.{released, texts}
+use Rattle.record_batch.specs.Sequences.Destinations.{told}
 use Rattle.rm_protocol.specs.Crashes.{IsLeftWith, IsLeft, KeepsAll}
 use Rattle.rm_protocol.specs.Node.{Node, State, Up, Writing, Compacting, records, node_end, with_batch}
 use Rattle.rm_protocol.specs.Sound.{Agree, Allows, AllowsState, AreWith, IsBounded, IsSound, Keeps, StandFor}

@@ -9,15 +9,15 @@ use Rattle.rm_base.specs.Numbered.{numbered}
 use Rattle.rm_base.specs.NumberSet.{has_number}
 use Rattle.rm_sides.specs.Destination.Messages.{gone_items, numbers_in, numbers_of, there_items}
 use Rattle.record_batch.specs.Fact.{Fact, Made, Received, Dropped, Purged}
-use Rattle.record_snapshot.specs.KeepLemmas.{kept-by-one-more}
+use Rattle.record_batch.specs.Snapshot.KeepLemmas.{kept-by-one-more}
 use Rattle.rm_sides.specs.Destination.ItemLemmas.{numbers_of-both}
-use Rattle.record_snapshot.specs.Same.{IsLive, IsNewIn}
-use Rattle.sequence_table.specs.Words.{Text, first_or, last_or}
-use Rattle.sequence_table.specs.Idents.{issue}
-use Rattle.sequence_table.specs.Makers.{Maker, maker, counter, number, ident_in, seq_in}
-use Rattle.sequence_table.specs.Sources.{accepted, accepted_count, dropped, dropped_of, out_ident, payload_at}
-use Rattle.sequence_table.specs.Destinations.{held, purged, purged_of, received}
-use Rattle.sequence_table.specs.Find.{IsIncoming, incoming_of, find_outgoing}
+use Rattle.record_batch.specs.Snapshot.Same.{IsLive, IsNewIn}
+use Rattle.record_batch.specs.Sequences.Words.{Text, first_or, last_or}
+use Rattle.record_batch.specs.Sequences.Idents.{issue}
+use Rattle.record_batch.specs.Sequences.Makers.{Maker, maker, counter, number, ident_in, seq_in}
+use Rattle.record_batch.specs.Sequences.Sources.{accepted, accepted_count, dropped, dropped_of, out_ident, payload_at}
+use Rattle.record_batch.specs.Sequences.Destinations.{held, purged, purged_of, received}
+use Rattle.record_batch.specs.Sequences.Find.{IsIncoming, incoming_of, find_outgoing}
 use Rattle.rm_protocol.specs.Sound.{Allows, Fresh, IsAsked, Keeps, NothingIsGone}
 use Rattle.rm_protocol.proofs.ListLemmas.{All-push, numbered-next}
 

@@ -6,9 +6,9 @@ use native.Mathlib.Numerals.{unary_clauses}
 use Rattle.rm_base.specs.Numbered.{numbered}
 use Rattle.rm_message.specs.declared.refusal.Refusal.{Refusal}
 use Rattle.record_batch.specs.Fact.{Fact}
-use Rattle.record_snapshot.specs.Snapshot.{snapshot}
+use Rattle.record_batch.specs.Snapshot.Snapshot.{snapshot}
 use Rattle.rm_protocol.specs.Calls as Calls
-use Rattle.sequence_table.specs.Words.{Text}
+use Rattle.record_batch.specs.Sequences.Words.{Text}
 use Rattle.rm_protocol.specs.Calls.{Answer, Done, Refused}
 use Rattle.rm_protocol.specs.Compact.{compact_cause, compact_outcome, compact_outcome_by, compacted, compacted_by}
 use Rattle.rm_protocol.specs.Compact.{may_compact, rewritten}

@@ -10,9 +10,9 @@ use Rattle.std.proofs.lemmas.Slice.Eq.{bytes_eq-Decides}
 use Rattle.rm_base.specs.Numbered.{numbered}
 use Rattle.rm_base.specs.NumberSet.{has_number}
 use Rattle.rm_sides.specs.Destination.Messages.{is_empty}
-use Rattle.sequence_table.specs.Words.{Text, at_seq}
-use Rattle.sequence_table.specs.Makers.{Maker, ident_in, seq_in}
-use Rattle.sequence_table.specs.Find.{find_from}
+use Rattle.record_batch.specs.Sequences.Words.{Text, at_seq}
+use Rattle.record_batch.specs.Sequences.Makers.{Maker, ident_in, seq_in}
+use Rattle.record_batch.specs.Sequences.Find.{find_from}
 use Rattle.rm_protocol.specs.Sound.{Rises, highest}
 
 pub IfSome-weaker : {A : Type 0} (P Q : A → Type 0) → ((x : A) → P x → Q x) → (o : Option A) → IfSome o P → IfSome o Q

@@ -16,19 +16,21 @@ use Rattle.rm_base.specs.declared.message.Payload.{Payload}
 use Rattle.rm_message.specs.declared.elements.header.AckBlock.{AckBlock}
 use Rattle.rm_message.specs.declared.message.Message.{Message}
 use Rattle.record_batch.specs.Fact.{Fact, Acked, Received, ClosedOut}
-use Rattle.record_snapshot.specs.Same.{AreNumbers}
+use Rattle.record_batch.specs.Snapshot.Same.{AreNumbers}
 use Rattle.rm_sides.specs.Destination.Messages.{Item, contents_of, gone_items, is_empty, items_of, numbers_in}
 use Rattle.rm_sides.specs.Destination.Messages.{sorted_onto}
 use Rattle.rm_sides.specs.Destination.Messages.{there_items, with_message, without_gap}
-use Rattle.sequence_table.specs.Words.{Text, at_seq, first_or}
+use Rattle.record_batch.specs.Sequences.Words.{Text, at_seq, first_or}
 use Rattle.rm_sides.specs.Destination.Messages.{numbers_of}
-use Rattle.sequence_table.specs.Makers.{makers, makers_of, maker, nodes_of, number}
-use Rattle.sequence_table.specs.Sources.{acked, is_sending, phase}
-use Rattle.sequence_table.specs.Destinations.{received, received_of, held, close_of, told, front, is_over, items}
+use Rattle.record_batch.specs.Sequences.Makers.{makers, makers_of, maker, nodes_of, number}
+use Rattle.record_batch.specs.Sequences.Sources.{acked, is_sending, phase}
+use Rattle.record_batch.specs.Sequences.Destinations.{received, received_of, held, close_of, told, front, is_over}
+use Rattle.record_batch.specs.Sequences.Destinations.{items}
 use Rattle.rm_sides.specs.Destination.Incoming.{inbox_of, is_loose}
 use Rattle.rm_sides.specs.Destination.LooseLemmas.{inbox_of-loose}
-use Rattle.sequence_table.specs.Destinations.{is_stopped, messages, inbox, behaviour, behaviour_of, purged, purged_of}
-use Rattle.sequence_table.specs.Find.{find_from, find_incoming, find_outgoing, is_incoming}
+use Rattle.record_batch.specs.Sequences.Destinations.{is_stopped, messages, inbox, behaviour, behaviour_of, purged}
+use Rattle.record_batch.specs.Sequences.Destinations.{purged_of}
+use Rattle.record_batch.specs.Sequences.Find.{find_from, find_incoming, find_outgoing, is_incoming}
 use Rattle.rm_base.specs.declared.message.Behaviour.TheVariants.{FollowingFirstGap}
 use Rattle.rm_sides.specs.Ranges.Changes.{covers_all, united}
 use Rattle.rm_protocol.specs.Rows.{then_row, ranges_of, ack_at, ack_row, final_at, final_row, ack_rows, data_row_at}
@@ -37,7 +39,7 @@ use Rattle.rm_protocol.specs.Recorded.{IsNew}
 use Rattle.rm_protocol.specs.Terms.{Terms}
 use Rattle.rm_protocol.proofs.ListLemmas.{All-append, numbered-next}
 use Rattle.rm_sides.specs.Destination.Incoming.{is_past}
-use Rattle.sequence_table.specs.Destinations.{deadline_of}
+use Rattle.record_batch.specs.Sequences.Destinations.{deadline_of}
 
 -- what acknowledgements bring says nothing of incoming sequences
 abbrev pub IsAck : Fact → Type 0

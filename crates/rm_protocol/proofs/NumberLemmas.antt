@@ -17,10 +17,10 @@ use Rattle.rm_message.specs.declared.message.Body.{Body}
 use Rattle.rm_message.specs.declared.message.Body.TheVariants as body
 use Rattle.rm_message.specs.declared.message.Message.{Message}
 use Rattle.record_batch.specs.Fact.{Fact}
-use Rattle.record_snapshot.specs.Same.{AreProper}
-use Rattle.sequence_table.specs.Words.{Text}
-use Rattle.sequence_table.specs.Sources.{accepted}
-use Rattle.sequence_table.specs.Destinations.{received}
+use Rattle.record_batch.specs.Snapshot.Same.{AreProper}
+use Rattle.record_batch.specs.Sequences.Words.{Text}
+use Rattle.record_batch.specs.Sequences.Sources.{accepted}
+use Rattle.record_batch.specs.Sequences.Destinations.{received}
 use Rattle.rm_protocol.specs.FitInduction.{few-accepted}
 use Rattle.rm_protocol.specs.Next.{HasNumbers, HasRanges, IsMessageNumber, IsNumberRange}
 use Rattle.rm_protocol.specs.Rows.{ranges_of}

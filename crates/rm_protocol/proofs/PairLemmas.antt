@@ -15,9 +15,9 @@ use Rattle.rm_message.specs.declared.refusal.FaultKind.{FaultKind}
 use Rattle.rm_message.specs.declared.refusal.Refusal.{Refusal}
 use Rattle.record_batch.specs.Fact.{Fact, Creating, Received}
 use Rattle.timers.specs.Pending.Waiting.{Waiting, nothing_waits}
-use Rattle.sequence_table.specs.Destinations.{held, is_stopped, received, received_of}
-use Rattle.sequence_table.specs.Fits.{all_fit, fits, is_incoming_side}
-use Rattle.sequence_table.specs.Makers.{counter, maker, makers}
+use Rattle.record_batch.specs.Sequences.Destinations.{held, is_stopped, received, received_of}
+use Rattle.record_batch.specs.Sequences.Fits.{all_fit, fits, is_incoming_side}
+use Rattle.record_batch.specs.Sequences.Makers.{counter, maker, makers}
 use Rattle.timers.specs.Keys.Waits.{first_due}
 use Rattle.rm_protocol.specs.Messages.{request_at}
 use Rattle.std.specs.Option.{option_to_list}

@@ -6,8 +6,8 @@ use Rattle.rm_sides.specs.declared.ranges.range.Range.{Range}
 use Rattle.rm_sides.specs.Ranges.Ranges.{is_between, in_range, in_ranges}
 use Rattle.rm_sides.specs.Ranges.Changes.{with_range, united}
 use Rattle.rm_base.specs.NumberSet.{has_number}
-use Rattle.record_snapshot.specs.NumberLemmas.{put}
-use Rattle.record_snapshot.specs.Same.{AreProper}
+use Rattle.record_batch.specs.Snapshot.NumberLemmas.{put}
+use Rattle.record_batch.specs.Snapshot.Same.{AreProper}
 use Rattle.rm_sides.specs.Destination.Messages.{ranges_onto}
 use Rattle.rm_protocol.specs.Messages.{kind_of}
 use Rattle.rm_protocol.specs.Rows.{ranges_of}

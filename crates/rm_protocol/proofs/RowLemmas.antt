@@ -23,13 +23,13 @@ use Rattle.wsa_headers.specs.declared.endpoint.Epr.{Epr}
 use Rattle.record_batch.specs.declared.record.PeerOffer.{PeerOffer}
 use Rattle.record_batch.specs.Fact.{Fact, Created, Acked, Received, ClosedOut, Closed, Ended, Failed}
 use Rattle.rm_sides.specs.Destination.Messages.{is_empty}
-use Rattle.sequence_table.specs.Words.{Text}
-use Rattle.sequence_table.specs.Idents.{issue}
-use Rattle.sequence_table.specs.Makers.{Maker, Outgoing, makers, maker, number, created, seq_in}
-use Rattle.sequence_table.specs.Sources.{acked, is_sending, marks, out_ident, phase}
-use Rattle.sequence_table.specs.Destinations.{held, front, has_end, is_ended, is_over}
-use Rattle.sequence_table.specs.Find.{IsIncoming, incoming_of, find_incoming, find_outgoing, find_grant}
-use Rattle.sequence_table.specs.Find.{find_creating, is_incoming, is_issued, is_creating, is_offered}
+use Rattle.record_batch.specs.Sequences.Words.{Text}
+use Rattle.record_batch.specs.Sequences.Idents.{issue}
+use Rattle.record_batch.specs.Sequences.Makers.{Maker, Outgoing, makers, maker, number, created, seq_in}
+use Rattle.record_batch.specs.Sequences.Sources.{acked, is_sending, marks, out_ident, phase}
+use Rattle.record_batch.specs.Sequences.Destinations.{held, front, has_end, is_ended, is_over}
+use Rattle.record_batch.specs.Sequences.Find.{IsIncoming, incoming_of, find_incoming, find_outgoing, find_grant}
+use Rattle.record_batch.specs.Sequences.Find.{find_creating, is_incoming, is_issued, is_creating, is_offered}
 use Rattle.rm_protocol.specs.Sound.{IsAsked, IsAccepted, IsGranted, IsFinal, SaysData, SaysBlock, SaysCreate}
 use Rattle.rm_protocol.specs.Sound.{SaysResponse, SaysFinal, Says, IsTold, IfWith, Justified, Owns, Fresh, Allows}
 use Rattle.rm_protocol.specs.Sound.{Keeps}

@@ -10,11 +10,11 @@ use Rattle.rm_base.specs.Limits.{journal_bytes}
 use Rattle.rm_base.specs.Numbered.{numbered}
 use Rattle.rm_message.specs.declared.message.Message.{Message}
 use Rattle.record_batch.specs.Fact.{Fact, Made}
-use Rattle.record_snapshot.specs.Same.{HasProper}
+use Rattle.record_batch.specs.Snapshot.Same.{HasProper}
 use Rattle.rm_base.specs.declared.message.Payload.{Payload}
-use Rattle.sequence_table.specs.Destinations.{received}
-use Rattle.sequence_table.specs.Words.{Text}
-use Rattle.sequence_table.specs.Makers.{makers, makers_of, draws_of, counter}
+use Rattle.record_batch.specs.Sequences.Destinations.{received}
+use Rattle.record_batch.specs.Sequences.Words.{Text}
+use Rattle.record_batch.specs.Sequences.Makers.{makers, makers_of, draws_of, counter}
 use Rattle.rm_protocol.specs.Sound.{Says, IsWith, Owns, Agree, Allows, AreWith, StandFor}
 use Rattle.std.specs.Prelude.{Result, Ok, Err}
 use Rattle.rm_message.specs.declared.refusal.Refusal.{Refusal}
@@ -22,7 +22,7 @@ use Rattle.rm_protocol.specs.Calls.{Answer, create, send, close, end, tick, ask_
 use Rattle.rm_protocol.specs.Calls.{consume}
 use Rattle.rm_protocol.specs.Next.{AddsNext, IsReadable}
 use Rattle.timers.specs.Keys.Waits.{first_due}
-use Rattle.sequence_table.specs.Fits.{all_fit}
+use Rattle.record_batch.specs.Sequences.Fits.{all_fit}
 use Rattle.rm_protocol.specs.Compact.{compacted, compacted_by, fresh_start, may_compact, rewritten, stops_compacting}
 use Rattle.rm_protocol.specs.Compact.{with_list}
 use Rattle.rm_protocol.specs.Node.{Node, State, Up, Writing, Compacting, records, records_in, end_of, fresh_entries}

@@ -20,14 +20,17 @@ use Rattle.rm_message.specs.declared.message.Message.{Message}
 use Rattle.wsa_headers.specs.declared.endpoint.Epr.{Epr}
 use Rattle.record_batch.specs.declared.record.Via.{Via}
 use Rattle.record_batch.specs.Fact.{Fact, Closing, Ending}
-use Rattle.record_snapshot.specs.Same.{AreProper}
+use Rattle.record_batch.specs.Snapshot.Same.{AreProper}
 use Rattle.rm_sides.specs.Destination.Messages.{is_empty, ranges_onto}
-use Rattle.sequence_table.specs.Words.{Text, at_seq, last_or}
-use Rattle.sequence_table.specs.Idents.{issue}
-use Rattle.sequence_table.specs.Makers.{Maker, Outgoing, Offered, Incoming, Taken, draws_of, makers, maker, number}
-use Rattle.sequence_table.specs.Sources.{accepted_count, marks, out_ident, payload_at, phase, ticket_of, tickets}
-use Rattle.sequence_table.specs.Destinations.{held}
-use Rattle.sequence_table.specs.Find.{IsIncoming, incoming_of, find_incoming, find_grant, is_granted, peer, acks_to}
+use Rattle.record_batch.specs.Sequences.Words.{Text, at_seq, last_or}
+use Rattle.record_batch.specs.Sequences.Idents.{issue}
+use Rattle.record_batch.specs.Sequences.Makers.{Maker, Outgoing, Offered, Incoming, Taken, draws_of, makers, maker}
+use Rattle.record_batch.specs.Sequences.Makers.{number}
+use Rattle.record_batch.specs.Sequences.Sources.{accepted_count, marks, out_ident, payload_at, phase, ticket_of}
+use Rattle.record_batch.specs.Sequences.Sources.{tickets}
+use Rattle.record_batch.specs.Sequences.Destinations.{held}
+use Rattle.record_batch.specs.Sequences.Find.{IsIncoming, incoming_of, find_incoming, find_grant, is_granted, peer}
+use Rattle.record_batch.specs.Sequences.Find.{acks_to}
 use Rattle.rm_protocol.specs.Sound.{IsGranted, IsFinal, SaysData, SaysBlock, SaysCreate, SaysResponse, SaysFinal}
 use Rattle.rm_protocol.specs.Sound.{AreHeld, IsRequest, Says, SaysName, SaysPlace, Keeps}
 use Rattle.std.specs.Option.{option_to_list}
@@ -37,8 +40,8 @@ use Rattle.rm_message.specs.declared.message.FaultBody.{FaultBody}
 use Rattle.rm_message.specs.declared.refusal.FaultKind.{FaultKind}
 use Rattle.rm_message.specs.declared.refusal.FaultKind.TheVariants.{SequenceClosed}
 use Rattle.rm_message.specs.declared.refusal.Refusal.{Refusal}
-use Rattle.sequence_table.specs.Sources.{first_phase}
-use Rattle.sequence_table.specs.Find.{plain_endpoint}
+use Rattle.record_batch.specs.Sequences.Sources.{first_phase}
+use Rattle.record_batch.specs.Sequences.Find.{plain_endpoint}
 use Rattle.rm_protocol.specs.Addresses.{is_anonymous, own_address, reply_endpoint}
 use Rattle.rm_protocol.specs.Calls.{fault_block, block_at, block_by, final_ack, made_by, refusal_of}
 use Rattle.rm_protocol.specs.Messages.{data_by, data_at, offer_by, create_request, finish_request, request_by}

@@ -13,17 +13,17 @@ use Rattle.rm_base.specs.declared.message.Behaviour.{Behaviour}
 use Rattle.rm_base.specs.declared.message.Cause.TheVariants.{Operator, Expired}
 use Rattle.rm_message.specs.declared.message.Message.{Message}
 use Rattle.record_batch.specs.Fact.{Fact, Creating, Accepted, Closing, Closed, Ending, Ended, Consumed}
-use Rattle.sequence_table.specs.Words.{Text}
-use Rattle.sequence_table.specs.Makers.{Maker, Outgoing, Offered, Incoming, Taken, makers, maker, counter}
-use Rattle.sequence_table.specs.Sources.{accepted, accepted_count, accepted_of, phase}
-use Rattle.sequence_table.specs.Destinations.{cursor, has_end, inbox, is_over}
+use Rattle.record_batch.specs.Sequences.Words.{Text}
+use Rattle.record_batch.specs.Sequences.Makers.{Maker, Outgoing, Offered, Incoming, Taken, makers, maker, counter}
+use Rattle.record_batch.specs.Sequences.Sources.{accepted, accepted_count, accepted_of, phase}
+use Rattle.record_batch.specs.Sequences.Destinations.{cursor, has_end, inbox, is_over}
 use Rattle.std.specs.Prelude.{Result, Ok, Err}
 use Rattle.rm_message.specs.declared.refusal.FaultKind.{FaultKind}
 use Rattle.rm_message.specs.declared.refusal.Refusal.{Refusal}
-use Rattle.sequence_table.specs.Find.{peer}
-use Rattle.sequence_table.specs.Sources.{all_unacked, out_ident, unacked}
+use Rattle.record_batch.specs.Sequences.Find.{peer}
+use Rattle.record_batch.specs.Sequences.Sources.{all_unacked, out_ident, unacked}
 use Rattle.rm_sides.specs.Destination.Incoming.{is_past}
-use Rattle.sequence_table.specs.Destinations.{deadline_of}
+use Rattle.record_batch.specs.Sequences.Destinations.{deadline_of}
 use Rattle.rm_protocol.specs.Calls
 use Rattle.rm_protocol.specs.Calls.{Answer, Cause, Outcome, Done, refusal, adds, if_room, Wish}
 use Rattle.rm_protocol.specs.Calls.{wanted, is_open, send_out, on_outgoing, close_out, close_in, close_by, may_end}

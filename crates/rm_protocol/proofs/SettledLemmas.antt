@@ -18,12 +18,12 @@ use Rattle.rm_message.specs.declared.message.Body.TheVariants as body
 use Rattle.rm_message.specs.declared.message.Message.{Message}
 use Rattle.record_batch.specs.declared.record.PeerOffer.{PeerOffer}
 use Rattle.record_batch.specs.Fact.{Fact, Creating, Created, Granted, Closing, Ending, Consumed}
-use Rattle.sequence_table.specs.Find.{IsIncoming, IsOutgoing}
-use Rattle.sequence_table.specs.Fits.{all_fit, fits, offer_fits}
-use Rattle.sequence_table.specs.Idents.{IssuesOnce, issue}
-use Rattle.sequence_table.specs.Makers.{counter, created, created_from, created_of, draws_of, ident_in, makers}
-use Rattle.sequence_table.specs.Makers.{makers_of, number}
-use Rattle.sequence_table.specs.Words.{Text}
+use Rattle.record_batch.specs.Sequences.Find.{IsIncoming, IsOutgoing}
+use Rattle.record_batch.specs.Sequences.Fits.{all_fit, fits, offer_fits}
+use Rattle.record_batch.specs.Sequences.Idents.{IssuesOnce, issue}
+use Rattle.record_batch.specs.Sequences.Makers.{counter, created, created_from, created_of, draws_of, ident_in, makers}
+use Rattle.record_batch.specs.Sequences.Makers.{makers_of, number}
+use Rattle.record_batch.specs.Sequences.Words.{Text}
 use Rattle.rm_protocol.specs.Calls.{Wish}
 use Rattle.rm_protocol.specs.FitInduction.{fit-induction}
 use Rattle.rm_protocol.specs.Heard.{Heard, IsOffered}

@@ -25,15 +25,15 @@ use Rattle.rm_message.specs.declared.message.Body.TheVariants as body
 use Rattle.rm_message.specs.declared.message.Message.{Message}
 use Rattle.record_batch.specs.declared.record.PeerOffer.{PeerOffer}
 use Rattle.record_batch.specs.Fact.{Fact, Created, Acked, Received, ClosedOut, Closed, Ended}
-use Rattle.record_snapshot.specs.Same.{AreProper}
-use Rattle.sequence_table.specs.Words.{Text, first_or}
-use Rattle.sequence_table.specs.Idents.{issue}
-use Rattle.sequence_table.specs.Makers.{makers, makers_of, maker, nodes_of, number, created}
-use Rattle.sequence_table.specs.Makers.{ident_in, seq_in}
-use Rattle.sequence_table.specs.Sources.{acked}
-use Rattle.sequence_table.specs.Destinations.{held, front, is_ended, is_over}
-use Rattle.sequence_table.specs.Find.{incoming_of, find_creating, find_grant, find_incoming}
-use Rattle.sequence_table.specs.Find.{find_outgoing}
+use Rattle.record_batch.specs.Snapshot.Same.{AreProper}
+use Rattle.record_batch.specs.Sequences.Words.{Text, first_or}
+use Rattle.record_batch.specs.Sequences.Idents.{issue}
+use Rattle.record_batch.specs.Sequences.Makers.{makers, makers_of, maker, nodes_of, number, created}
+use Rattle.record_batch.specs.Sequences.Makers.{ident_in, seq_in}
+use Rattle.record_batch.specs.Sequences.Sources.{acked}
+use Rattle.record_batch.specs.Sequences.Destinations.{held, front, is_ended, is_over}
+use Rattle.record_batch.specs.Sequences.Find.{incoming_of, find_creating, find_grant, find_incoming}
+use Rattle.record_batch.specs.Sequences.Find.{find_outgoing}
 use Rattle.rm_protocol.specs.Addresses.{is_anonymous, is_nowhere}
 use Rattle.rm_protocol.specs.Next.{HasRanges, IsNumberRange}
 use Rattle.rm_protocol.specs.Pair.{AsksNone, IsForeignBlock, IsForeignCreate, IsForeignData, IsForeignEnd}

@@ -18,13 +18,13 @@ use Rattle.rm_message.specs.declared.refusal.FaultKind.TheVariants.{InvalidAckno
 use Rattle.rm_message.specs.declared.refusal.FaultKind.TheVariants.{MissingSelection, UnsupportedSelection}
 use Rattle.rm_message.specs.declared.refusal.FaultKind.TheVariants.{StoreFull}
 use Rattle.record_batch.specs.Fact.{Fact}
-use Rattle.record_snapshot.specs.Same.{AreNumbers}
+use Rattle.record_batch.specs.Snapshot.Same.{AreNumbers}
 use Rattle.rm_sides.specs.Destination.Messages.{is_empty, numbers_of}
-use Rattle.sequence_table.specs.Words.{Text}
-use Rattle.sequence_table.specs.Makers.{maker}
+use Rattle.record_batch.specs.Sequences.Words.{Text}
+use Rattle.record_batch.specs.Sequences.Makers.{maker}
 use Rattle.rm_sides.specs.Destination.Incoming.{is_past}
 use Rattle.rm_sides.specs.Destination.Messages.{any_true}
-use Rattle.sequence_table.specs.Destinations.{closes, deadline_of, held, is_ended, is_over, items, received}
+use Rattle.record_batch.specs.Sequences.Destinations.{closes, deadline_of, held, is_ended, is_over, items, received}
 use Rattle.rm_protocol.specs.Calls.{Answer, Done, judged}
 use Rattle.rm_protocol.specs.Delivered.{Brings, Takes, IsWriting, TakesUnless, TakesNew}
 use Rattle.rm_protocol.specs.Node.{Node, State, Up, Writing, Compacting, records, node_end, is_short, goes_down}

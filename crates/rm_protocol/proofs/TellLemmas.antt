@@ -8,11 +8,11 @@ use Rattle.uuid.proofs.RoundTrips.{parses_urn}
 use Rattle.rm_message.specs.declared.message.Message.{Message}
 use Rattle.rm_base.specs.Limits.{journal_bytes}
 use Rattle.record_batch.specs.Fact.{Fact, Made}
-use Rattle.sequence_table.specs.Words.{Text}
-use Rattle.sequence_table.specs.Idents.{issue, lower_half, upper_half}
-use Rattle.sequence_table.specs.Makers.{counter}
-use Rattle.sequence_table.specs.Sources.{accepted}
-use Rattle.sequence_table.specs.Destinations.{behaviour, received, told}
+use Rattle.record_batch.specs.Sequences.Words.{Text}
+use Rattle.record_batch.specs.Sequences.Idents.{issue, lower_half, upper_half}
+use Rattle.record_batch.specs.Sequences.Makers.{counter}
+use Rattle.record_batch.specs.Sequences.Sources.{accepted}
+use Rattle.record_batch.specs.Sequences.Destinations.{behaviour, received, told}
 use Rattle.rm_protocol.specs.Next.{HasNumbers}
 use Rattle.rm_protocol.specs.Node.{node_end}
 use Rattle.rm_protocol.specs.Pair.{APairTells, IsBetweenThem, IsMade, IsPairNode, IssuedByOne, MadeAreAPair}

@@ -26,19 +26,20 @@ use Rattle.rm_base.specs.declared.lapse.Lapse.{Lapse}
 use Rattle.record_batch.specs.declared.record.OwnOffer.{OwnOffer}
 use Rattle.record_batch.specs.declared.record.PeerOffer.{PeerOffer}
 use Rattle.record_batch.specs.declared.record.Via.{Via}
-use Rattle.sequence_table.specs.Words.{Text, at_seq, last_or}
-use Rattle.sequence_table.specs.Makers.{Maker, Outgoing, Offered, Incoming, Taken, makers, makers_of, maker}
-use Rattle.sequence_table.specs.Makers.{created_of, ident_in}
-use Rattle.sequence_table.specs.Sources.{accepted, accepted_count, accepted_of, dropped, dropped_of, first_phase}
-use Rattle.sequence_table.specs.Sources.{is_sending, phase, marks, mark_of, out_ident}
-use Rattle.sequence_table.specs.GatherLemmas.{flat_map-more, at_seq-more}
-use Rattle.sequence_table.specs.NameLemmas.{names-within, names-fit, elsewhere_accepted, elsewhere_dropped}
-use Rattle.sequence_table.specs.NameLemmas.{elsewhere_mark, unnamed, unnamed_at, unnamed_ident}
-use Rattle.sequence_table.specs.Fits.{fits, all_fit, follows, follows_at, is_outgoing_side}
-use Rattle.sequence_table.specs.Told.{Told, Side, Sends, Receives, names, sending, sending_after}
+use Rattle.record_batch.specs.Sequences.Words.{Text, at_seq, last_or}
+use Rattle.record_batch.specs.Sequences.Makers.{Maker, Outgoing, Offered, Incoming, Taken, makers, makers_of, maker}
+use Rattle.record_batch.specs.Sequences.Makers.{created_of, ident_in}
+use Rattle.record_batch.specs.Sequences.Sources.{accepted, accepted_count, accepted_of, dropped, dropped_of}
+use Rattle.record_batch.specs.Sequences.Sources.{first_phase}
+use Rattle.record_batch.specs.Sequences.Sources.{is_sending, phase, marks, mark_of, out_ident}
+use Rattle.record_batch.specs.Sequences.GatherLemmas.{flat_map-more, at_seq-more}
+use Rattle.record_batch.specs.Sequences.NameLemmas.{names-within, names-fit, elsewhere_accepted, elsewhere_dropped}
+use Rattle.record_batch.specs.Sequences.NameLemmas.{elsewhere_mark, unnamed, unnamed_at, unnamed_ident}
+use Rattle.record_batch.specs.Sequences.Fits.{fits, all_fit, follows, follows_at, is_outgoing_side}
+use Rattle.record_batch.specs.Sequences.Told.{Told, Side, Sends, Receives, names, sending, sending_after}
 use Rattle.std.specs.List.{AllByRecursion, flat_map}
-use Rattle.sequence_table.specs.ToldLemmas.{sending-more, after-elsewhere}
-use Rattle.sequence_table.specs.PhaseLemmas.{created-creating, out_ident-more}
+use Rattle.record_batch.specs.Sequences.ToldLemmas.{sending-more, after-elsewhere}
+use Rattle.record_batch.specs.Sequences.PhaseLemmas.{created-creating, out_ident-more}
 use Rattle.rm_protocol.proofs.ListLemmas.{numbered-next, numbered-append, numbered-within, numbered-last}
 use Rattle.rm_protocol.specs.Exact.{AreWithin}
 use Rattle.rm_protocol.specs.Waiting.{key, is_requesting, waits_in, waits_of, is_waiting, begun_of}

@@ -9,10 +9,10 @@ use Rattle.rm_message.specs.Actions.{action_of}
 use Rattle.record_batch.specs.declared.record.Via.{Via}
 use Rattle.record_batch.specs.declared.record.Via.TheVariants.{Direct, Polled, Back}
 use Rattle.record_batch.specs.Fact.{Fact}
-use Rattle.sequence_table.specs.Words.{Text}
-use Rattle.sequence_table.specs.Idents.{polled_address, polled_prefix}
-use Rattle.sequence_table.specs.Makers.{number, address}
-use Rattle.sequence_table.specs.Find.{plain_endpoint}
+use Rattle.record_batch.specs.Sequences.Words.{Text}
+use Rattle.record_batch.specs.Sequences.Idents.{polled_address, polled_prefix}
+use Rattle.record_batch.specs.Sequences.Makers.{number, address}
+use Rattle.record_batch.specs.Sequences.Find.{plain_endpoint}
 
 -- the action of a message of the protocol, by the name of its element
 unfoldable pub rm_action : Text → Text

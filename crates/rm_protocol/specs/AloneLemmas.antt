@@ -3,7 +3,7 @@
 use Rattle.std.proofs.Common.{◌≡◌, ℕ, ◌≤◌, List, [], ◌∷◌, refl, ap, arith, length-append}
 use Rattle.std.specs.List.{flat_map}
 use Rattle.record_batch.specs.Fact.{Fact}
-use Rattle.sequence_table.specs.Makers.{draws_of, counter}
+use Rattle.record_batch.specs.Sequences.Makers.{draws_of, counter}
 use Rattle.rm_protocol.specs.Node.{records_in, alone, end_of}
 use Rattle.rm_protocol.specs.Terms.{Terms}
 

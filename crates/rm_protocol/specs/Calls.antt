@@ -20,15 +20,15 @@ use Rattle.rm_message.specs.declared.refusal.Refusal.{Refusal}
 use Rattle.record_batch.specs.declared.record.OwnOffer.{OwnOffer}
 use Rattle.record_batch.specs.declared.record.Via.{Via}
 use Rattle.record_batch.specs.Fact.{Fact, Creating, Accepted, Closing, Closed, Ending, Ended, Consumed}
-use Rattle.sequence_table.specs.Words.{Text}
-use Rattle.sequence_table.specs.Idents.{issue}
-use Rattle.sequence_table.specs.Makers.{Maker, Outgoing, Taken, makers, maker, counter, number}
-use Rattle.sequence_table.specs.Sources.{accepted_count, out_ident, phase, unacked, all_unacked}
+use Rattle.record_batch.specs.Sequences.Words.{Text}
+use Rattle.record_batch.specs.Sequences.Idents.{issue}
+use Rattle.record_batch.specs.Sequences.Makers.{Maker, Outgoing, Taken, makers, maker, counter, number}
+use Rattle.record_batch.specs.Sequences.Sources.{accepted_count, out_ident, phase, unacked, all_unacked}
 use Rattle.rm_base.specs.NumberSet.{has_number}
 use Rattle.rm_sides.specs.Destination.Incoming.{is_past}
 use Rattle.rm_sides.specs.Destination.Messages.{ranges_onto}
-use Rattle.sequence_table.specs.Destinations.{cursor, held, has_end, inbox, is_over, deadline_of}
-use Rattle.sequence_table.specs.Find.{incoming_of, find_incoming, acks_to, peer}
+use Rattle.record_batch.specs.Sequences.Destinations.{cursor, held, has_end, inbox, is_over, deadline_of}
+use Rattle.record_batch.specs.Sequences.Find.{incoming_of, find_incoming, acks_to, peer}
 use Rattle.rm_protocol.specs.Addresses.{fault_endpoint}
 use Rattle.rm_protocol.specs.Messages.{data_at, request_at, block_of, ask_message}
 use Rattle.rm_protocol.specs.Rows.{rows}

@@ -1,8 +1,8 @@
 -- What applications were given and consumed, as a run goes on.
 use Rattle.std.specs.Prelude.{ℕ, List, ◌++◌}
 use Rattle.record_batch.specs.Fact.{Fact}
-use Rattle.sequence_table.specs.Destinations.{released}
-use Rattle.sequence_table.specs.Words.{Text}
+use Rattle.record_batch.specs.Sequences.Destinations.{released}
+use Rattle.record_batch.specs.Sequences.Words.{Text}
 use Rattle.rm_protocol.specs.Terms.{Terms, AreTerms}
 use Rattle.rm_protocol.specs.Word.{IsPrefixOf, consumed}
 use Rattle.rm_protocol.specs.World.{World, Side, Event, AreMade, node, run, start}

@@ -1,7 +1,7 @@
 -- What crashes leave of two nodes, and the headline of that.
 use Rattle.std.specs.Prelude.{◌≡◌, ◌⊎◌, Bool, List, [], ◌∷◌, ◌++◌}
 use Rattle.record_batch.specs.Fact.{Fact}
-use Rattle.record_snapshot.specs.Snapshot.{snapshot}
+use Rattle.record_batch.specs.Snapshot.Snapshot.{snapshot}
 use Rattle.rm_protocol.specs.Node.{Node, State, Up, Writing, Compacting, records}
 use Rattle.rm_protocol.specs.Sound.{Keeps}
 use Rattle.rm_protocol.specs.Terms.{Terms}

@@ -9,7 +9,7 @@ use Rattle.rm_message.specs.declared.message.Message.{Message}
 use Rattle.rm_message.specs.declared.refusal.FaultKind.TheVariants.{InvalidAcknowledgement, StoreFull}
 use Rattle.record_batch.specs.Fact.{Fact}
 use Rattle.rm_sides.specs.Destination.Incoming.{is_loose}
-use Rattle.sequence_table.specs.Destinations.{behaviour, front, inbox, received}
+use Rattle.record_batch.specs.Sequences.Destinations.{behaviour, front, inbox, received}
 use Rattle.rm_protocol.specs.Calls.{Done, Judged}
 use Rattle.rm_protocol.specs.Node.{Node, State, Up, records, node_end, is_short, Answered, DiskFault, IsDown}
 use Rattle.rm_protocol.specs.Recorded.{IsNew}

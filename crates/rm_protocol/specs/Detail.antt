@@ -5,8 +5,8 @@ use Rattle.soap_document.specs.Profile.Tree.{Element, element}
 use Rattle.soap_writer.specs.Frame.{messaging_space}
 use Rattle.soap_values.specs.Values.{trimmed_text}
 use Rattle.record_batch.specs.Fact.{Fact}
-use Rattle.sequence_table.specs.Words.{Text}
-use Rattle.sequence_table.specs.Find.{find_outgoing}
+use Rattle.record_batch.specs.Sequences.Words.{Text}
+use Rattle.record_batch.specs.Sequences.Find.{find_outgoing}
 
 -- the text of an Identifier, without white space at its ends
 abbrev pub ident_of : Element → Option Text

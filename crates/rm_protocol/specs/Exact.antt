@@ -1,15 +1,15 @@
 -- The keys that wait at a node are, as a set, exactly those that wait by its records.
 use Rattle.std.specs.List.{AllByRecursion}
-use Rattle.sequence_table.specs.Told.{names, sending}
+use Rattle.record_batch.specs.Sequences.Told.{names, sending}
 use Rattle.std.specs.Prelude.{◌≡◌, ◌≢◌, ◌⊎◌, ℕ, ◌≤◌, true, List, [], ◌∷◌, ◌++◌}
 use Rattle.rm_sides.specs.Ranges.Ranges.{in_ranges}
-use Rattle.sequence_table.specs.Sources.{accepted_count}
+use Rattle.record_batch.specs.Sequences.Sources.{accepted_count}
 use Rattle.timers.specs.declared.slots.timers.Key.{Key}
 use Rattle.timers.specs.Keys.Waits.{Wait, has_key, keys_of}
 use Rattle.record_batch.specs.Fact.{Fact}
-use Rattle.record_snapshot.specs.Same.{HaveProper}
-use Rattle.record_snapshot.specs.Snapshot.{snapshot}
-use Rattle.sequence_table.specs.Fits.{fits, all_fit}
+use Rattle.record_batch.specs.Snapshot.Same.{HaveProper}
+use Rattle.record_batch.specs.Snapshot.Snapshot.{snapshot}
+use Rattle.record_batch.specs.Sequences.Fits.{fits, all_fit}
 use Rattle.rm_protocol.specs.Waiting.{Moves, is_waiting, begun_of, begun_by, mounted_waits, waits_after}
 
 -- a key that waits after one more record waited before it, or begins with it

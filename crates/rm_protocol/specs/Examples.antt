@@ -11,8 +11,8 @@ use Rattle.rm_message.specs.declared.refusal.Refusal.{Refusal}
 use Rattle.record_batch.specs.declared.record.Via.TheVariants.{Direct, Polled}
 use Rattle.rm_base.specs.declared.message.Payload.{Payload}
 use Rattle.rm_sides.specs.Destination.Messages.{Item}
-use Rattle.sequence_table.specs.Makers.{counter}
-use Rattle.sequence_table.specs.Words.{Text}
+use Rattle.record_batch.specs.Sequences.Makers.{counter}
+use Rattle.record_batch.specs.Sequences.Words.{Text}
 use Rattle.rm_protocol.specs.Addresses.{rm_action}
 use Rattle.rm_protocol.specs.Messages.{never, plain}
 use Rattle.rm_protocol.specs.Terms.{Terms, header_blocks}

@@ -7,14 +7,15 @@ use Rattle.std.proofs.lemmas.Bool.{and_parts, eqb-true, false≢true}
 use Rattle.rm_sides.specs.declared.source.phase.OutPhase.TheVariants as out
 use Rattle.rm_base.specs.Message.{max_number}
 use Rattle.record_batch.specs.Fact.{Fact, Accepted, Dropped}
-use Rattle.record_snapshot.specs.AckedLemmas.{few-on}
-use Rattle.sequence_table.specs.Words.{at_seq, last_or}
-use Rattle.sequence_table.specs.Makers.{maker}
-use Rattle.sequence_table.specs.Sources.{accepted, accepted_count, accepted_of, dropped_of, mark_of, marks, out_ident}
-use Rattle.sequence_table.specs.Sources.{phase}
-use Rattle.sequence_table.specs.Fits.{fits, all_fit, follows, follows_at, is_outgoing_side}
-use Rattle.sequence_table.specs.GatherLemmas.{flat_map-more, at_seq-more}
-use Rattle.sequence_table.specs.PhaseLemmas.{out_ident-more, creating-bare}
+use Rattle.record_batch.specs.Snapshot.AckedLemmas.{few-on}
+use Rattle.record_batch.specs.Sequences.Words.{at_seq, last_or}
+use Rattle.record_batch.specs.Sequences.Makers.{maker}
+use Rattle.record_batch.specs.Sequences.Sources.{accepted, accepted_count, accepted_of, dropped_of, mark_of, marks}
+use Rattle.record_batch.specs.Sequences.Sources.{out_ident}
+use Rattle.record_batch.specs.Sequences.Sources.{phase}
+use Rattle.record_batch.specs.Sequences.Fits.{fits, all_fit, follows, follows_at, is_outgoing_side}
+use Rattle.record_batch.specs.Sequences.GatherLemmas.{flat_map-more, at_seq-more}
+use Rattle.record_batch.specs.Sequences.PhaseLemmas.{out_ident-more, creating-bare}
 
 induct : (P : List Fact → Type 0) → ((r : List Fact) (f : Fact) → P r → fits r f ≡ true → P (r ++ f ∷ []))
     → (r xs : List Fact) → P r → all_fit r xs ≡ true → P (r ++ xs)

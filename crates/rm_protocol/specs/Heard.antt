@@ -12,7 +12,7 @@ use Rattle.rm_message.specs.declared.message.Message.{Message}
 use Rattle.record_batch.specs.declared.record.PeerOffer.{PeerOffer}
 use Rattle.record_batch.specs.Fact.{Fact, Made, Creating, Created, Granted, Accepted, Acked, Received, Closing, Closed}
 use Rattle.record_batch.specs.Fact.{Ending, Ended, Consumed, Dropped, Purged}
-use Rattle.sequence_table.specs.Words.{Text}
+use Rattle.record_batch.specs.Sequences.Words.{Text}
 use Rattle.rm_protocol.specs.Rows.{ranges_of}
 
 -- the offer that was taken has the identifier of the one that was made

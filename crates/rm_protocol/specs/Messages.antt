@@ -23,12 +23,12 @@ use Rattle.wsa_headers.specs.declared.endpoint.Epr.{Epr}
 use Rattle.record_batch.specs.declared.record.Via.{Via}
 use Rattle.record_batch.specs.declared.record.Via.TheVariants.{Direct}
 use Rattle.record_batch.specs.Fact.{Fact}
-use Rattle.sequence_table.specs.Words.{Text, last_or}
-use Rattle.sequence_table.specs.Idents.{issue}
-use Rattle.sequence_table.specs.Makers.{Maker, Outgoing, Offered, maker, number}
-use Rattle.sequence_table.specs.Sources.{accepted_count, out_ident, payload_at, phase, tickets}
-use Rattle.sequence_table.specs.Destinations.{held, is_over}
-use Rattle.sequence_table.specs.Find.{peer, plain_endpoint}
+use Rattle.record_batch.specs.Sequences.Words.{Text, last_or}
+use Rattle.record_batch.specs.Sequences.Idents.{issue}
+use Rattle.record_batch.specs.Sequences.Makers.{Maker, Outgoing, Offered, maker, number}
+use Rattle.record_batch.specs.Sequences.Sources.{accepted_count, out_ident, payload_at, phase, tickets}
+use Rattle.record_batch.specs.Sequences.Destinations.{held, is_over}
+use Rattle.record_batch.specs.Sequences.Find.{peer, plain_endpoint}
 use Rattle.rm_protocol.specs.Addresses.{rm_action, payload_action, own_address, reply_to}
 
 -- a message of one body to an endpoint, whose reference parameters go with it

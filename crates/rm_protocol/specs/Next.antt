@@ -9,8 +9,8 @@ use Rattle.rm_message.specs.declared.elements.header.SeqHeader.{SeqHeader}
 use Rattle.rm_message.specs.declared.message.Message.{Message}
 use Rattle.rm_message.specs.declared.refusal.Refusal.{Refusal}
 use Rattle.record_batch.specs.Fact.{Fact}
-use Rattle.sequence_table.specs.Fits.{all_fit}
-use Rattle.sequence_table.specs.Words.{Text}
+use Rattle.record_batch.specs.Sequences.Fits.{all_fit}
+use Rattle.record_batch.specs.Sequences.Words.{Text}
 use Rattle.rm_protocol.specs.Calls.{Wish, create, send, close, end, tick_with, ask_ack, nack_missing, receive, consume}
 use Rattle.rm_protocol.specs.Rows.{ranges_of}
 use Rattle.timers.specs.declared.slots.timers.Key.{Key}

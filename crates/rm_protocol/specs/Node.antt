@@ -5,7 +5,7 @@ use Rattle.std.specs.List.{flat_map}
 use Rattle.rm_base.specs.declared.message.Behaviour.{Behaviour}
 use Rattle.rm_message.specs.declared.message.Message.{Message}
 use Rattle.record_batch.specs.Fact.{Fact}
-use Rattle.record_snapshot.specs.Snapshot.{snapshot}
+use Rattle.record_batch.specs.Snapshot.Snapshot.{snapshot}
 use Rattle.timers.specs.Pending.Waiting.{Waiting, nothing_waits}
 use Rattle.rm_protocol.specs.Calls.{Answer, Outcome, Fetched}
 use Rattle.rm_protocol.specs.Polls.{polled_after}

@@ -17,12 +17,12 @@ use Rattle.rm_message.specs.declared.message.Message.{Message}
 use Rattle.rm_message.specs.declared.refusal.Refusal.{Refusal}
 use Rattle.record_batch.specs.Fact.{Fact, Made, Creating, Created, Granted, Accepted, Received, Consumed}
 use Rattle.rm_sides.specs.Destination.Incoming.{is_loose}
-use Rattle.sequence_table.specs.Fits.{all_fit}
-use Rattle.sequence_table.specs.Find.{IsIncoming, IsOutgoing}
-use Rattle.sequence_table.specs.Makers.{Maker, maker, number}
-use Rattle.sequence_table.specs.Sources.{accepted}
-use Rattle.sequence_table.specs.Destinations.{behaviour, released, texts}
-use Rattle.sequence_table.specs.Words.{Text}
+use Rattle.record_batch.specs.Sequences.Fits.{all_fit}
+use Rattle.record_batch.specs.Sequences.Find.{IsIncoming, IsOutgoing}
+use Rattle.record_batch.specs.Sequences.Makers.{Maker, maker, number}
+use Rattle.record_batch.specs.Sequences.Sources.{accepted}
+use Rattle.record_batch.specs.Sequences.Destinations.{behaviour, released, texts}
+use Rattle.record_batch.specs.Sequences.Words.{Text}
 use Rattle.rm_protocol.specs.Calls.{Answer, Wish, ask_ack, close, consume, create, end, nack_missing, send, tick}
 use Rattle.rm_protocol.specs.Compact.{compacted}
 use Rattle.rm_protocol.specs.Consumed.{GoesOn}

@@ -11,7 +11,7 @@ use Rattle.timers.specs.Pending.Waiting.{without_first, first_in}
 use Rattle.rm_message.specs.declared.elements.header.AckBlock.{AckBlock}
 use Rattle.rm_message.specs.declared.message.Message.{Message}
 use Rattle.rm_message.specs.declared.refusal.Refusal.{Refusal}
-use Rattle.sequence_table.specs.Words.{Text}
+use Rattle.record_batch.specs.Sequences.Words.{Text}
 use Rattle.rm_protocol.specs.Addresses.{place_of}
 use Rattle.rm_protocol.specs.Calls.{Answer, Fetched}
 use Rattle.rm_protocol.specs.Node.{fetched_message}

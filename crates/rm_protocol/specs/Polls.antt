@@ -11,10 +11,10 @@ use Rattle.rm_message.specs.declared.message.Body.TheVariants as body
 use Rattle.rm_message.specs.declared.message.Message.{Message}
 use Rattle.rm_message.specs.declared.refusal.Refusal.{Refusal}
 use Rattle.record_batch.specs.Fact.{Fact}
-use Rattle.sequence_table.specs.Words.{Text}
-use Rattle.sequence_table.specs.Idents.{polled_address}
-use Rattle.sequence_table.specs.Makers.{number}
-use Rattle.sequence_table.specs.Find.{plain_endpoint}
+use Rattle.record_batch.specs.Sequences.Words.{Text}
+use Rattle.record_batch.specs.Sequences.Idents.{polled_address}
+use Rattle.record_batch.specs.Sequences.Makers.{number}
+use Rattle.record_batch.specs.Sequences.Find.{plain_endpoint}
 use Rattle.rm_protocol.specs.Addresses.{Place, Waits, is_anonymous, place_of}
 use Rattle.rm_protocol.specs.Calls.{Answer, Outcome, Done, Fetched, adds}
 use Rattle.rm_protocol.specs.Messages.{plain}

@@ -14,12 +14,12 @@ use Rattle.rm_sides.specs.declared.source.phase.OutPhase.TheVariants as out
 use Rattle.rm_message.specs.declared.message.Body.TheVariants as body
 use Rattle.rm_message.specs.declared.message.Message.{Message}
 use Rattle.record_batch.specs.Fact.{Fact, Received}
-use Rattle.record_snapshot.specs.Same.{AreNumbers}
+use Rattle.record_batch.specs.Snapshot.Same.{AreNumbers}
 use Rattle.rm_sides.specs.Destination.Incoming.{is_loose}
-use Rattle.sequence_table.specs.Words.{Text}
-use Rattle.sequence_table.specs.Destinations.{behaviour, front, held, inbox, is_over, items}
-use Rattle.sequence_table.specs.Sources.{is_sending, phase}
-use Rattle.sequence_table.specs.Find.{find_incoming, find_outgoing}
+use Rattle.record_batch.specs.Sequences.Words.{Text}
+use Rattle.record_batch.specs.Sequences.Destinations.{behaviour, front, held, inbox, is_over, items}
+use Rattle.record_batch.specs.Sequences.Sources.{is_sending, phase}
+use Rattle.record_batch.specs.Sequences.Find.{find_incoming, find_outgoing}
 use Rattle.rm_protocol.specs.Heard.{Heard}
 use Rattle.rm_protocol.specs.Rows.{final_row, rows}
 use Rattle.rm_protocol.specs.Terms.{Terms}

@@ -4,7 +4,7 @@ use Rattle.timers.specs.Pending.Waiting.{Waiting}
 use Rattle.rm_base.specs.declared.message.Behaviour.{Behaviour}
 use Rattle.rm_message.specs.declared.message.Message.{Message}
 use Rattle.record_batch.specs.Fact.{Fact}
-use Rattle.sequence_table.specs.Words.{Text}
+use Rattle.record_batch.specs.Sequences.Words.{Text}
 use Rattle.rm_protocol.specs.Calls.{Fetched, receive}
 use Rattle.rm_protocol.specs.Said.{acks_said, back_blocks, own_messages, with_blocks}
 use Rattle.rm_protocol.specs.Terms.{Terms}

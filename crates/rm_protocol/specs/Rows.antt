@@ -32,11 +32,11 @@ use Rattle.wsa_headers.specs.declared.endpoint.Epr.{Epr}
 use Rattle.record_batch.specs.declared.record.PeerOffer.{PeerOffer}
 use Rattle.record_batch.specs.Fact.{Fact, Created, Granted, Acked, Received, ClosedOut, Closed, EndedOut}
 use Rattle.record_batch.specs.Fact.{Ended, Failed}
-use Rattle.sequence_table.specs.Words.{Text}
-use Rattle.sequence_table.specs.Makers.{makers, maker, counter}
-use Rattle.sequence_table.specs.Sources.{acked, is_sending, phase}
-use Rattle.sequence_table.specs.Destinations.{held, front, has_end, is_ended, is_over}
-use Rattle.sequence_table.specs.Find.{find_incoming, find_outgoing, find_grant, find_creating, is_offered}
+use Rattle.record_batch.specs.Sequences.Words.{Text}
+use Rattle.record_batch.specs.Sequences.Makers.{makers, maker, counter}
+use Rattle.record_batch.specs.Sequences.Sources.{acked, is_sending, phase}
+use Rattle.record_batch.specs.Sequences.Destinations.{held, front, has_end, is_ended, is_over}
+use Rattle.record_batch.specs.Sequences.Find.{find_incoming, find_outgoing, find_grant, find_creating, is_offered}
 use Rattle.rm_protocol.specs.Addresses.{is_anonymous, is_nowhere}
 use Rattle.rm_protocol.specs.Detail.{named_in}
 use Rattle.rm_protocol.specs.Terms.{Terms}

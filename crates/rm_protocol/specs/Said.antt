@@ -13,10 +13,10 @@ use Rattle.rm_message.specs.declared.message.Message.{Message}
 use Rattle.wsa_headers.specs.declared.addressing.Addressing.{Addressing}
 use Rattle.wsa_headers.specs.declared.endpoint.Epr.{Epr}
 use Rattle.record_batch.specs.Fact.{Fact}
-use Rattle.sequence_table.specs.Words.{Text}
-use Rattle.sequence_table.specs.Idents.{issue}
-use Rattle.sequence_table.specs.Makers.{Maker, Incoming, maker, address, number}
-use Rattle.sequence_table.specs.Find.{acks_to, find_incoming, find_grant, is_taken, plain_endpoint}
+use Rattle.record_batch.specs.Sequences.Words.{Text}
+use Rattle.record_batch.specs.Sequences.Idents.{issue}
+use Rattle.record_batch.specs.Sequences.Makers.{Maker, Incoming, maker, address, number}
+use Rattle.record_batch.specs.Sequences.Find.{acks_to, find_incoming, find_grant, is_taken, plain_endpoint}
 use Rattle.rm_protocol.specs.Addresses.{Place, BackOn, Out, place_of, is_anonymous, reply_endpoint}
 use Rattle.rm_protocol.specs.Messages.{block_of, ack_message, response_of}
 

@@ -3,8 +3,8 @@ use Rattle.std.specs.Prelude.{◌≡◌, ◌⊎◌, ℕ, ◌+◌, ◌==◌, ◌&
 use Rattle.std.specs.Prelude.{length, Option, Some, None, Err}
 use Rattle.rm_base.specs.Numbered.{numbered}
 use Rattle.record_batch.specs.Fact.{Fact}
-use Rattle.record_snapshot.specs.Snapshot.{snapshot}
-use Rattle.sequence_table.specs.Words.{Text}
+use Rattle.record_batch.specs.Snapshot.Snapshot.{snapshot}
+use Rattle.record_batch.specs.Sequences.Words.{Text}
 use Rattle.rm_protocol.specs.Calls.{Done, create, send, close, end, tick, ask_ack, nack_missing, consume}
 use Rattle.rm_protocol.specs.Compact.{compact_outcome}
 use Rattle.rm_protocol.specs.Node.{Node, State, Up, Writing, Compacting, records, node_end, CallOutcome, Answered}

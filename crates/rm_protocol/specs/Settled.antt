@@ -9,9 +9,9 @@ use Rattle.rm_message.specs.declared.message.Body.TheVariants as body
 use Rattle.rm_message.specs.declared.message.Message.{Message}
 use Rattle.record_batch.specs.declared.record.PeerOffer.{PeerOffer}
 use Rattle.record_batch.specs.Fact.{Fact, Created, Granted}
-use Rattle.sequence_table.specs.Idents.{issue}
-use Rattle.sequence_table.specs.Makers.{counter, number}
-use Rattle.sequence_table.specs.Words.{Text}
+use Rattle.record_batch.specs.Sequences.Idents.{issue}
+use Rattle.record_batch.specs.Sequences.Makers.{counter, number}
+use Rattle.record_batch.specs.Sequences.Words.{Text}
 use Rattle.rm_protocol.specs.Node.{Node, State, Writing}
 use Rattle.rm_protocol.specs.Pair.{Act, Receives, IsAmong, IsPair, MayBefall, acted, left}
 use Rattle.rm_protocol.specs.PollLemmas.{AllWaiting}

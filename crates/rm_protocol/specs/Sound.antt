@@ -21,16 +21,16 @@ use Rattle.record_batch.specs.declared.record.Via.{Via}
 use Rattle.record_batch.specs.declared.record.PeerOffer.{PeerOffer}
 use Rattle.record_batch.specs.Fact.{Fact, Made, Creating, Created, Granted, Accepted, Acked, Received, Closed}
 use Rattle.record_batch.specs.Fact.{Ended, Dropped, Purged}
-use Rattle.record_snapshot.specs.Same.{AreProper, HaveProper, IsLive, SaysTheSame}
+use Rattle.record_batch.specs.Snapshot.Same.{AreProper, HaveProper, IsLive, SaysTheSame}
 use Rattle.rm_sides.specs.Destination.Messages.{is_empty, numbers_of}
-use Rattle.sequence_table.specs.Words.{Text}
-use Rattle.sequence_table.specs.Idents.{issue}
-use Rattle.sequence_table.specs.Makers.{Maker, Outgoing, Offered, Incoming, Taken, makers, maker, counter}
-use Rattle.sequence_table.specs.Makers.{number, address, created, draws_of, seq_in}
-use Rattle.sequence_table.specs.Sources.{accepted, marks, out_ident}
-use Rattle.sequence_table.specs.Destinations.{held, received}
-use Rattle.sequence_table.specs.Fits.{all_fit}
-use Rattle.sequence_table.specs.Find.{IsOutgoing, IsIncoming}
+use Rattle.record_batch.specs.Sequences.Words.{Text}
+use Rattle.record_batch.specs.Sequences.Idents.{issue}
+use Rattle.record_batch.specs.Sequences.Makers.{Maker, Outgoing, Offered, Incoming, Taken, makers, maker, counter}
+use Rattle.record_batch.specs.Sequences.Makers.{number, address, created, draws_of, seq_in}
+use Rattle.record_batch.specs.Sequences.Sources.{accepted, marks, out_ident}
+use Rattle.record_batch.specs.Sequences.Destinations.{held, received}
+use Rattle.record_batch.specs.Sequences.Fits.{all_fit}
+use Rattle.record_batch.specs.Sequences.Find.{IsOutgoing, IsIncoming}
 use Rattle.timers.specs.Pending.Waiting.{Waiting}
 use Rattle.rm_protocol.specs.PollLemmas.{AllWaiting}
 use Rattle.rm_protocol.specs.Node.{Node, State, Up, Writing, Compacting, records, end_of, fresh_entries, node_end}

@@ -10,8 +10,8 @@ use Rattle.rm_message.specs.declared.refusal.FaultKind.{FaultKind}
 use Rattle.rm_message.specs.declared.refusal.FaultKind.TheVariants.{SequenceClosed}
 use Rattle.rm_message.specs.declared.refusal.Refusal.{Refusal}
 use Rattle.record_batch.specs.Fact.{Fact}
-use Rattle.sequence_table.specs.Words.{Text}
-use Rattle.sequence_table.specs.Makers.{counter}
+use Rattle.record_batch.specs.Sequences.Words.{Text}
+use Rattle.record_batch.specs.Sequences.Makers.{counter}
 
 -- how many bytes a batch of records takes; the moment at which a duration ends that begins at a moment; whether bytes
 -- may stand in a Body; the fault that a refusal is answered with, with the block that it carries or repeats; what the

@@ -20,11 +20,11 @@ use Rattle.rm_message.specs.declared.refusal.FaultKind.TheVariants.{InvalidAckno
 use Rattle.rm_message.specs.declared.refusal.FaultKind.TheVariants.{MissingSelection, UnsupportedSelection}
 use Rattle.rm_message.specs.declared.refusal.FaultKind.TheVariants.{StoreFull}
 use Rattle.record_batch.specs.Fact.{Fact}
-use Rattle.sequence_table.specs.Words.{Text}
-use Rattle.sequence_table.specs.Makers.{makers}
-use Rattle.sequence_table.specs.Sources.{accepted_count}
-use Rattle.sequence_table.specs.Destinations.{held, is_over, is_ended}
-use Rattle.sequence_table.specs.Find.{find_incoming, find_outgoing, find_grant}
+use Rattle.record_batch.specs.Sequences.Words.{Text}
+use Rattle.record_batch.specs.Sequences.Makers.{makers}
+use Rattle.record_batch.specs.Sequences.Sources.{accepted_count}
+use Rattle.record_batch.specs.Sequences.Destinations.{held, is_over, is_ended}
+use Rattle.record_batch.specs.Sequences.Find.{find_incoming, find_outgoing, find_grant}
 use Rattle.rm_protocol.specs.Addresses.{is_nowhere}
 use Rattle.rm_protocol.specs.Rows.{ranges_of, rows}
 use Rattle.rm_protocol.specs.Terms.{Terms}

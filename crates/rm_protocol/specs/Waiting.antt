@@ -11,11 +11,11 @@ use Rattle.rm_message.specs.declared.elements.header.AckBlock.{AckBlock}
 use Rattle.rm_message.specs.declared.elements.header.AckKind.{AckKind}
 use Rattle.rm_message.specs.declared.elements.header.AckKind.TheVariants as kind
 use Rattle.record_batch.specs.Fact.{Fact, Creating, Accepted, Closing, Ending}
-use Rattle.sequence_table.specs.Makers.{Maker, Outgoing, Taken, makers, maker}
+use Rattle.record_batch.specs.Sequences.Makers.{Maker, Outgoing, Taken, makers, maker}
 use Rattle.rm_sides.specs.Source.Outgoing.{Sending, accepted_count as count_of}
-use Rattle.sequence_table.specs.Sources.{accepted_count, is_sending}
-use Rattle.sequence_table.specs.Told.{sending}
-use Rattle.sequence_table.specs.Find.{find_outgoing}
+use Rattle.record_batch.specs.Sequences.Sources.{accepted_count, is_sending}
+use Rattle.record_batch.specs.Sequences.Told.{sending}
+use Rattle.record_batch.specs.Sequences.Find.{find_outgoing}
 
 -- the key of a message, or with number 0 of the request of its sequence
 abbrev pub key : ℕ → ℕ → Key

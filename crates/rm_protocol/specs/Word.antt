@@ -9,10 +9,10 @@ use Rattle.record_batch.specs.Fact.{Fact}
 use Rattle.rm_base.specs.Numbered.{numbered}
 use Rattle.rm_sides.specs.Destination.Incoming.{is_loose}
 use Rattle.rm_sides.specs.Destination.Messages.{is_empty, numbers_of}
-use Rattle.sequence_table.specs.Words.{Text}
-use Rattle.sequence_table.specs.Sources.{accepted, acked, marks}
-use Rattle.sequence_table.specs.Destinations.{held, inbox, behaviour, cursor, received, released, texts}
-use Rattle.sequence_table.specs.Find.{IsOutgoing, IsIncoming}
+use Rattle.record_batch.specs.Sequences.Words.{Text}
+use Rattle.record_batch.specs.Sequences.Sources.{accepted, acked, marks}
+use Rattle.record_batch.specs.Sequences.Destinations.{held, inbox, behaviour, cursor, received, released, texts}
+use Rattle.record_batch.specs.Sequences.Find.{IsOutgoing, IsIncoming}
 
 -- ys begins with xs
 abbrev pub IsPrefixOf : {A : Type 0} → List A → List A → Type 0

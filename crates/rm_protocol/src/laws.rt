@@ -30,14 +30,14 @@ ghost use Rattle.rm_protocol.specs.Crashes.{HasRecords, IsAfterCrashes, IsLeft, 
 ghost use Rattle.rm_protocol.specs.Word.{InboxIsAll, consumed};
 ghost use Rattle.rm_protocol.specs.World.{AreMade, Consume, Crash, Deliver, Event, Noise, Packet, Side, Two, World};
 ghost use Rattle.rm_protocol.specs.World.{happens, node, other, run, start};
-ghost use Rattle.sequence_table.specs.Destinations.{cursor, discarded, inbox, texts};
-ghost use Rattle.sequence_table.specs.Sources.{accepted_count};
-ghost use Rattle.sequence_table.specs.Words.{Text};
+ghost use Rattle.record_batch.specs.Sequences.Destinations.{cursor, discarded, inbox, texts};
+ghost use Rattle.record_batch.specs.Sequences.Sources.{accepted_count};
+ghost use Rattle.record_batch.specs.Sequences.Words.{Text};
 
-use record_snapshot::{
+use record_batch::snapshot::{
     a_snapshot_fits, a_snapshot_is_proper, a_snapshot_keeps_all, a_snapshot_says_the_same,
 };
-use sequence_table::laws::one_number_one_identifier;
+use record_batch::sequences::laws::one_number_one_identifier;
 
 /// Whatever is sent, lost, repeated, reordered and consumed, and whichever node crashes at whichever device call, every
 /// run keeps the headline at each pair of images of both disks, and so it keeps what is said of loose sequences.

@@ -11,7 +11,7 @@ use Rattle.rm_message.specs.declared.message.Message.{Message}
 use Rattle.rm_message.specs.declared.refusal.Refusal.{Refusal}
 use Rattle.rm_report.specs.declared.line.Outcome.TheVariants as told
 use Rattle.rm_script.specs.declared.event.Side.{Side}
-use Rattle.sequence_table.specs.Words.{Text}
+use Rattle.record_batch.specs.Sequences.Words.{Text}
 use Rattle.rm_protocol.specs.Messages.{never}
 use Rattle.record_batch.specs.declared.record.Via.TheVariants.{Direct}
 use Rattle.rm_protocol.specs.Terms.{Terms}

@@ -13,9 +13,9 @@ use Rattle.rm_protocol.specs.Addresses.{BackOn, Nowhere, Out, Place, Waits, anon
 use Rattle.rm_protocol.specs.Addresses.{is_polled}
 use Rattle.rm_protocol.specs.Addresses.{no_address, place_of}
 use Rattle.rm_replay.specs.Net.{text_of}
-use Rattle.sequence_table.specs.Idents.{polled_prefix}
+use Rattle.record_batch.specs.Sequences.Idents.{polled_prefix}
 use Rattle.rm_protocol.specs.Pair.{Acted}
-use Rattle.sequence_table.specs.Words.{Text}
+use Rattle.record_batch.specs.Sequences.Words.{Text}
 use Rattle.rm_relay.specs.Word.World.{Packet, address_of, goes_to, packet_to, packets_of, station_at}
 use Rattle.rm_relay.specs.declared.word.station.Station.{Station}
 use Rattle.rm_relay.specs.declared.word.station.Station.TheVariants.{One, Two, Three}

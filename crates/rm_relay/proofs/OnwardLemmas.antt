@@ -8,7 +8,7 @@ use Rattle.record_batch.specs.Fact.{Fact}
 use Rattle.rm_disk.specs.Call.{Call as DeviceCall}
 use Rattle.rm_disk.specs.Told.{Told}
 use Rattle.rm_report.specs.declared.line.Outcome.TheVariants as told
-use Rattle.sequence_table.specs.Words.{Text}
+use Rattle.record_batch.specs.Sequences.Words.{Text}
 use Rattle.node_store.specs.Stored.{Stored}
 use Rattle.rm_protocol.specs.Calls.{Answer, Done, consume, send}
 use Rattle.rm_protocol.specs.Node.{Node, State, Up, Writing, Compacting, after_by, fetched_by, node_end, records}

@@ -5,7 +5,7 @@ use Rattle.rm_node.specs.declared.packets.Out.{Out}
 use Rattle.rm_replay.specs.Actor.Outcomes.{packets_in}
 use Rattle.rm_replay.specs.declared.actor.actor.Came.{Came}
 use Rattle.rm_protocol.specs.Addresses.{is_anonymous}
-use Rattle.sequence_table.specs.Words.{Text}
+use Rattle.record_batch.specs.Sequences.Words.{Text}
 use Rattle.rm_relay.specs.Word.World.{number_of, station_at}
 use Rattle.rm_relay.specs.declared.word.station.Station.{Station}
 

@@ -4,10 +4,10 @@ ghost use Rattle.std.specs.Prelude.{◌≡◌, ◌<◌, ◌≤◌, ℕ, IfSome, 
 ghost use Rattle.std.specs.Option.{option_copied};
 ghost use Rattle.rm_base.specs.Message.{max_number};
 ghost use Rattle.rm_sides.specs.Destination.Messages.{item_at};
-ghost use Rattle.sequence_table.specs.Destinations.{cursor, inbox};
-ghost use Rattle.sequence_table.specs.Fits.{is_incoming_side, is_outgoing_side};
-ghost use Rattle.sequence_table.specs.Makers.{maker};
-ghost use Rattle.sequence_table.specs.Sources.{accepted_count};
+ghost use Rattle.record_batch.specs.Sequences.Destinations.{cursor, inbox};
+ghost use Rattle.record_batch.specs.Sequences.Fits.{is_incoming_side, is_outgoing_side};
+ghost use Rattle.record_batch.specs.Sequences.Makers.{maker};
+ghost use Rattle.record_batch.specs.Sequences.Sources.{accepted_count};
 ghost use Rattle.rm_node.specs.Called.{HasBatches, Steps};
 ghost use Rattle.rm_node.specs.Ends.{done_end};
 ghost use Rattle.rm_node.specs.declared.call.Call.TheVariants.{Consume as Consumes};

@@ -25,7 +25,7 @@ use Rattle.rm_protocol.specs.World.{Packet, Side, One, Two, World, Ask, Close, C
 use Rattle.rm_protocol.specs.World.{Noise, Poll, Send, Tick, arrives, happens, node, other, place, with_clock}
 use Rattle.rm_script.specs.declared.event.Event.TheVariants as said
 use Rattle.rm_script.specs.declared.event.Side.{Side as Place}
-use Rattle.sequence_table.specs.Words.{Text}
+use Rattle.record_batch.specs.Sequences.Words.{Text}
 use Rattle.rm_replay.specs.AllLemmas.{all_get, some_same}
 use Rattle.rm_replay.specs.Asked.{step_of}
 use Rattle.rm_replay.specs.Happening.{Happened, moved}

@@ -7,7 +7,7 @@ use Rattle.rm_protocol.specs.World.{AreMade, Event, World, happens, run, start}
 use Rattle.rm_protocol.specs.Terms.{AreTerms}
 use Rattle.rm_script.specs.Within.{IsWithin}
 use Rattle.rm_script.specs.declared.event.Event.{Event as Said}
-use Rattle.sequence_table.specs.Words.{Text}
+use Rattle.record_batch.specs.Sequences.Words.{Text}
 use Rattle.node_laws.specs.OwnTerms.{OwnAreTerms}
 use Rattle.rm_replay.specs.Headline.{KeepsHeadline, KeepsLooseWord}
 use Rattle.rm_replay.specs.Meaning.{stepped}

@@ -11,7 +11,7 @@ use Rattle.rm_protocol.specs.Unarmed.{AreUnarmed, IsFaultless, IsUnarmed}
 use Rattle.rm_protocol.specs.World.{Event, World, happens, run, start}
 use Rattle.rm_script.specs.declared.event.Event.{Event as Said}
 use Rattle.rm_script.specs.declared.event.Event.TheVariants as said
-use Rattle.sequence_table.specs.Words.{Text}
+use Rattle.record_batch.specs.Sequences.Words.{Text}
 use Rattle.rm_replay.specs.Actor.Outcomes.{refusal_told}
 use Rattle.rm_replay.specs.AllLemmas.{all_append}
 use Rattle.rm_replay.specs.Meaning.{Means, comes_out, outcome_told, report_of, silent, stepped}

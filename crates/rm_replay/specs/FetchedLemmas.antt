@@ -7,10 +7,10 @@ use Rattle.rm_message.specs.declared.message.Message.{Message}
 use Rattle.rm_message.specs.declared.refusal.FaultKind.{FaultKind}
 use Rattle.rm_message.specs.declared.refusal.Refusal.{Refusal}
 use Rattle.record_batch.specs.Fact.{Fact}
-use Rattle.sequence_table.specs.Destinations.{is_over}
-use Rattle.sequence_table.specs.Makers.{Maker, Outgoing, Offered, Incoming, Taken, maker, makers}
-use Rattle.sequence_table.specs.Sources.{phase}
-use Rattle.sequence_table.specs.Words.{Text}
+use Rattle.record_batch.specs.Sequences.Destinations.{is_over}
+use Rattle.record_batch.specs.Sequences.Makers.{Maker, Outgoing, Offered, Incoming, Taken, maker, makers}
+use Rattle.record_batch.specs.Sequences.Sources.{phase}
+use Rattle.record_batch.specs.Sequences.Words.{Text}
 use Rattle.rm_protocol.specs.Calls.{Answer, Cause, Wish, ask_ack, ask_out, close, close_by, close_in, close_out}
 use Rattle.rm_protocol.specs.Calls.{consume, consume_in, create}
 use Rattle.rm_protocol.specs.Calls.{end, end_out, if_room, may_end, nack_in, nack_missing, on_incoming, on_outgoing}

@@ -3,7 +3,7 @@ use crate::parts::{NEVER, at_new, endpoint, ident, made, payload, uri};
 use node_tables::{Maker, Peer, TableError, Tables};
 use record_batch::{OwnOffer, PeerOffer, Record, Via};
 use rm_base::{Behaviour, Blob, Ident, Uri};
-use sequence_table::issue;
+use record_batch::sequences::issue;
 use std::alloc::Global;
 use std::test::Fail;
 use wsa_headers::Epr;

@@ -10,9 +10,9 @@ use Rattle.std.proofs.lemmas.List.{append-nil, at_drop_more}
 use Rattle.std.proofs.lemmas.Option.{slice_get-get_or, slice_get_past}
 use Rattle.rm_base.specs.Numbered.{numbered}
 use Rattle.record_batch.specs.Fact.{Fact}
-use Rattle.sequence_table.specs.Makers.{Maker, makers, maker, nodes_of, number}
-use Rattle.sequence_table.specs.Words.{Text, first_or}
-use Rattle.sequence_table.specs.Find.{find_from, find_incoming, is_incoming}
+use Rattle.record_batch.specs.Sequences.Makers.{Maker, makers, maker, nodes_of, number}
+use Rattle.record_batch.specs.Sequences.Words.{Text, first_or}
+use Rattle.record_batch.specs.Sequences.Find.{find_from, find_incoming, is_incoming}
 use Rattle.node_tables.specs.Kept.{no_maker}
 use Rattle.node_tables.specs.Reads.{passes}
 use Rattle.tables_ahead.proofs.GatheredLemmas.{makers-both}

@@ -18,15 +18,17 @@ use Rattle.rm_sides.specs.Destination.ItemLemmas.{numbers_of-both, numbers_of-th
 use Rattle.rm_sides.specs.Destination.Messages.{items_of, numbers_in, ranges_onto}
 use Rattle.record_batch.specs.Fact.{Fact, Dropped, Purged}
 use Rattle.rm_sides.specs.Destination.Messages.{is_empty, numbers_of}
-use Rattle.sequence_table.specs.Words.{Text, at_seq, last_or}
-use Rattle.sequence_table.specs.Makers.{makers, makers_of, counter, draws_of}
-use Rattle.sequence_table.specs.Makers.{created, created_of, created_from, seq_in}
-use Rattle.sequence_table.specs.Sources.{accepted, accepted_count, accepted_of, acked, acked_of, dropped, dropped_of}
+use Rattle.record_batch.specs.Sequences.Words.{Text, at_seq, last_or}
+use Rattle.record_batch.specs.Sequences.Makers.{makers, makers_of, counter, draws_of}
+use Rattle.record_batch.specs.Sequences.Makers.{created, created_of, created_from, seq_in}
+use Rattle.record_batch.specs.Sequences.Sources.{accepted, accepted_count, accepted_of, acked, acked_of, dropped}
+use Rattle.record_batch.specs.Sequences.Sources.{dropped_of}
 use Rattle.rm_sides.specs.Destination.Messages.{any_true}
-use Rattle.sequence_table.specs.Destinations.{close_of, closes, has_end, held, is_stopped, items, purged, purged_of}
-use Rattle.sequence_table.specs.Destinations.{received, received_of}
-use Rattle.sequence_table.specs.Find.{find_outgoing}
-use Rattle.sequence_table.specs.GatherLemmas.{at_seq-append, united-append}
+use Rattle.record_batch.specs.Sequences.Destinations.{close_of, closes, has_end, held, is_stopped, items, purged}
+use Rattle.record_batch.specs.Sequences.Destinations.{purged_of}
+use Rattle.record_batch.specs.Sequences.Destinations.{received, received_of}
+use Rattle.record_batch.specs.Sequences.Find.{find_outgoing}
+use Rattle.record_batch.specs.Sequences.GatherLemmas.{at_seq-append, united-append}
 
 -- what is gathered for one sequence
 pub gathered_at : {A : Type 0} (s : ℕ) (g : Fact → List (ℕ × A)) (r d : List Fact)

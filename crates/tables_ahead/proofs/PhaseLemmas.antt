@@ -5,11 +5,11 @@ use Rattle.std.specs.Option.{option_or}
 use Rattle.rm_sides.specs.declared.source.phase.OutPhase.{OutPhase}
 use Rattle.rm_sides.specs.declared.source.phase.OutPhase.TheVariants as out
 use Rattle.record_batch.specs.Fact.{Fact}
-use Rattle.sequence_table.specs.Words.{Text, last_or}
-use Rattle.sequence_table.specs.Makers.{makers, created, created_from, ident_in}
-use Rattle.sequence_table.specs.Sources.{first_phase, mark_of, marks, out_ident, phase}
-use Rattle.sequence_table.specs.GatherLemmas.{ident_in-append, last_or-append}
-use Rattle.sequence_table.specs.PhaseLemmas.{creating-bare}
+use Rattle.record_batch.specs.Sequences.Words.{Text, last_or}
+use Rattle.record_batch.specs.Sequences.Makers.{makers, created, created_from, ident_in}
+use Rattle.record_batch.specs.Sequences.Sources.{first_phase, mark_of, marks, out_ident, phase}
+use Rattle.record_batch.specs.Sequences.GatherLemmas.{ident_in-append, last_or-append}
+use Rattle.record_batch.specs.Sequences.PhaseLemmas.{creating-bare}
 use Rattle.tables_ahead.specs.Known.{opened}
 use Rattle.tables_ahead.proofs.GatheredLemmas.{created-both, gathered_at}
 

@@ -14,21 +14,26 @@ use Rattle.record_batch.specs.Fact.{Fact, Made, Creating, Created, Granted, Acce
 use Rattle.record_batch.specs.Fact.{Closing}
 use Rattle.record_batch.specs.Fact.{ClosedOut, Closed, Ending, EndedOut, Ended, Failed, Consumed, Dropped, Purged}
 use Rattle.rm_sides.specs.Destination.Messages.{items_of, numbers_of}
-use Rattle.sequence_table.specs.Words.{Text, at_seq, first_or, last_or}
-use Rattle.sequence_table.specs.Makers.{Maker, Outgoing, Offered, Incoming, Taken, makers, makers_of, maker, counter}
-use Rattle.sequence_table.specs.Makers.{created_of, created_from, ident_in}
-use Rattle.sequence_table.specs.Sources.{accepted_count, accepted_of, acked, acked_of, dropped_of, first_phase, mark_of}
-use Rattle.sequence_table.specs.Sources.{out_ident, phase}
-use Rattle.sequence_table.specs.Destinations.{close_of, closes, has_end, is_stopped, items, purged_of, received}
-use Rattle.sequence_table.specs.Destinations.{received_of}
-use Rattle.sequence_table.specs.Find.{accept_of, accepted_by}
-use Rattle.sequence_table.specs.Fits.{fits, all_fit, follows, follows_at, is_outgoing_side, is_incoming_side, is_up_to}
-use Rattle.sequence_table.specs.Told.{names}
-use Rattle.sequence_table.specs.GatherLemmas.{at_seq-append, ident_in-append}
-use Rattle.sequence_table.specs.NameLemmas.{names-within, elsewhere_accepted, elsewhere_acked, elsewhere_received}
-use Rattle.sequence_table.specs.NameLemmas.{elsewhere_mark, elsewhere_close, elsewhere_accept, elsewhere_dropped}
-use Rattle.sequence_table.specs.NameLemmas.{elsewhere_purged}
-use Rattle.sequence_table.specs.PhaseLemmas.{created-creating, creating-bare, out_ident-more}
+use Rattle.record_batch.specs.Sequences.Words.{Text, at_seq, first_or, last_or}
+use Rattle.record_batch.specs.Sequences.Makers.{Maker, Outgoing, Offered, Incoming, Taken, makers, makers_of, maker}
+use Rattle.record_batch.specs.Sequences.Makers.{counter}
+use Rattle.record_batch.specs.Sequences.Makers.{created_of, created_from, ident_in}
+use Rattle.record_batch.specs.Sequences.Sources.{accepted_count, accepted_of, acked, acked_of, dropped_of, first_phase}
+use Rattle.record_batch.specs.Sequences.Sources.{mark_of}
+use Rattle.record_batch.specs.Sequences.Sources.{out_ident, phase}
+use Rattle.record_batch.specs.Sequences.Destinations.{close_of, closes, has_end, is_stopped, items, purged_of, received}
+use Rattle.record_batch.specs.Sequences.Destinations.{received_of}
+use Rattle.record_batch.specs.Sequences.Find.{accept_of, accepted_by}
+use Rattle.record_batch.specs.Sequences.Fits.{fits, all_fit, follows, follows_at, is_outgoing_side, is_incoming_side}
+use Rattle.record_batch.specs.Sequences.Fits.{is_up_to}
+use Rattle.record_batch.specs.Sequences.Told.{names}
+use Rattle.record_batch.specs.Sequences.GatherLemmas.{at_seq-append, ident_in-append}
+use Rattle.record_batch.specs.Sequences.NameLemmas.{names-within, elsewhere_accepted, elsewhere_acked}
+use Rattle.record_batch.specs.Sequences.NameLemmas.{elsewhere_received}
+use Rattle.record_batch.specs.Sequences.NameLemmas.{elsewhere_mark, elsewhere_close, elsewhere_accept}
+use Rattle.record_batch.specs.Sequences.NameLemmas.{elsewhere_dropped}
+use Rattle.record_batch.specs.Sequences.NameLemmas.{elsewhere_purged}
+use Rattle.record_batch.specs.Sequences.PhaseLemmas.{created-creating, creating-bare, out_ident-more}
 use Rattle.node_tables.specs.Reads.{incoming_in, incoming_of, outgoing_in, outgoing_of}
 use Rattle.tables_ahead.specs.Known.{AreNumbers}
 use Rattle.tables_ahead.proofs.GatheredLemmas.{gathered_at, makers-count}

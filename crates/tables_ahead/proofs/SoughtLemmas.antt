@@ -1,10 +1,10 @@
 -- What was sought of the tables.
 use Rattle.std.proofs.Common.{◌≡◌, ℕ, ◌<◌, ◌^◌, List, Option, Some, refl, sym, ap, ◌∙◌}
 use Rattle.record_batch.specs.Fact.{Fact}
-use Rattle.sequence_table.specs.Find.{find_incoming}
-use Rattle.sequence_table.specs.Idents.{IsIssuedFor}
-use Rattle.sequence_table.specs.Makers.{number}
-use Rattle.sequence_table.specs.Words.{Text}
+use Rattle.record_batch.specs.Sequences.Find.{find_incoming}
+use Rattle.record_batch.specs.Sequences.Idents.{IsIssuedFor}
+use Rattle.record_batch.specs.Sequences.Makers.{number}
+use Rattle.record_batch.specs.Sequences.Words.{Text}
 use Rattle.tables_ahead.specs.Known.{IsSought}
 
 -- a node issues one text for a number

@@ -7,11 +7,11 @@ use Rattle.rm_sides.specs.Ranges.Ranges.{Contents}
 use Rattle.record_batch.specs.Fact.{Fact, Made, Creating, Granted, Dropped, Purged}
 use Rattle.rm_sides.specs.declared.source.phase.OutPhase.{OutPhase}
 use Rattle.rm_sides.specs.declared.source.phase.OutPhase.TheVariants as out
-use Rattle.sequence_table.specs.Words.{Text}
-use Rattle.sequence_table.specs.Find.{find_from, find_incoming}
-use Rattle.sequence_table.specs.Idents.{IsIssuedFor}
-use Rattle.sequence_table.specs.Makers.{Maker, makers, number, nodes_of, addresses_of}
-use Rattle.sequence_table.specs.Fits.{all_fit, has_places}
+use Rattle.record_batch.specs.Sequences.Words.{Text}
+use Rattle.record_batch.specs.Sequences.Find.{find_from, find_incoming}
+use Rattle.record_batch.specs.Sequences.Idents.{IsIssuedFor}
+use Rattle.record_batch.specs.Sequences.Makers.{Maker, makers, number, nodes_of, addresses_of}
+use Rattle.record_batch.specs.Sequences.Fits.{all_fit, has_places}
 use Rattle.node_tables.specs.Room.{has_room}
 
 -- the records of the tables, and those ahead of them, oldest first

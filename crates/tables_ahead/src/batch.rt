@@ -4,11 +4,11 @@ ghost use Rattle.std.specs.List.{flat_map};
 ghost use Rattle.std.specs.Option.{option_copied, option_map};
 ghost use Rattle.record_batch.specs.Fact.{fact_of};
 ghost use Rattle.rm_sides.specs.Destination.Messages.{numbers_of};
-ghost use Rattle.sequence_table.specs.Destinations.{has_end, is_stopped, received};
-ghost use Rattle.sequence_table.specs.Find.{accept_of};
-ghost use Rattle.sequence_table.specs.Makers.{counter, created_from, ident_in, makers, seq_in};
-ghost use Rattle.sequence_table.specs.Sources.{accepted, marks};
-ghost use Rattle.sequence_table.specs.Words.{at_seq, last_or};
+ghost use Rattle.record_batch.specs.Sequences.Destinations.{has_end, is_stopped, received};
+ghost use Rattle.record_batch.specs.Sequences.Find.{accept_of};
+ghost use Rattle.record_batch.specs.Sequences.Makers.{counter, created_from, ident_in, makers, seq_in};
+ghost use Rattle.record_batch.specs.Sequences.Sources.{accepted, marks};
+ghost use Rattle.record_batch.specs.Sequences.Words.{at_seq, last_or};
 ghost use Rattle.rm_base.specs.NumberSet.{has_number};
 ghost use Rattle.node_tables.specs.Reads.{maker_seen};
 
@@ -19,7 +19,7 @@ use node_tables::{Maker, maker_by};
 use record_batch::Record;
 use rm_base::Ident;
 use rm_sides::source::OutPhase;
-use sequence_table::made_by;
+use record_batch::sequences::made_by;
 use wsa_headers::Epr;
 
 /// How many numbers were drawn, after so many, or the greatest number of 64 bits.

@@ -4,8 +4,8 @@ ghost use Rattle.std.specs.List.{list_all};
 ghost use Rattle.rm_sides.specs.Ranges.Changes.{covers, covers_all, united};
 ghost use Rattle.record_batch.specs.Fact.{fact_of};
 ghost use Rattle.rm_sides.specs.Destination.Messages.{numbers_of, ranges_onto};
-ghost use Rattle.sequence_table.specs.Destinations.{received};
-ghost use Rattle.sequence_table.specs.Sources.{acked, acked_of};
+ghost use Rattle.record_batch.specs.Sequences.Destinations.{received};
+ghost use Rattle.record_batch.specs.Sequences.Sources.{acked, acked_of};
 ghost use Rattle.node_tables.specs.Room.{has_room};
 ghost use Rattle.tables_ahead.specs.Known.{AreNumbers};
 

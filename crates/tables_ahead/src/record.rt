@@ -3,12 +3,12 @@ ghost use Rattle.std.specs.Prelude.{◌≡◌, ◌+◌, ◌≤◌, true, length,
 ghost use Rattle.std.specs.Option.{option_copied, option_map};
 ghost use Rattle.record_batch.specs.Fact.{fact_of};
 ghost use Rattle.rm_sides.specs.Destination.Messages.{any_true};
-ghost use Rattle.sequence_table.specs.Destinations.{close_of, received_of};
-ghost use Rattle.sequence_table.specs.Find.{accept_of};
-ghost use Rattle.sequence_table.specs.Makers.{created_of, draws_of, ident_in, makers_of, seq_in};
-ghost use Rattle.sequence_table.specs.Sources.{accepted_of, acked_of, mark_of};
+ghost use Rattle.record_batch.specs.Sequences.Destinations.{close_of, received_of};
+ghost use Rattle.record_batch.specs.Sequences.Find.{accept_of};
+ghost use Rattle.record_batch.specs.Sequences.Makers.{created_of, draws_of, ident_in, makers_of, seq_in};
+ghost use Rattle.record_batch.specs.Sequences.Sources.{accepted_of, acked_of, mark_of};
 ghost use Rattle.rm_sides.specs.Destination.Messages.{is_empty, numbers_of};
-ghost use Rattle.sequence_table.specs.Words.{at_seq, last_or};
+ghost use Rattle.record_batch.specs.Sequences.Words.{at_seq, last_or};
 ghost use Rattle.node_tables.specs.Room.{has_room};
 ghost use Rattle.tables_ahead.specs.Known.{ranges_in};
 

@@ -4,9 +4,9 @@ ghost use Rattle.rm_sides.specs.Ranges.Changes.{covers_all, united};
 ghost use Rattle.rm_base.specs.Message.{max_number};
 ghost use Rattle.rm_base.specs.NumberSet.{has_number};
 ghost use Rattle.rm_sides.specs.Destination.Messages.{ranges_onto};
-ghost use Rattle.sequence_table.specs.Destinations.{front, has_end, held, is_stopped};
-ghost use Rattle.sequence_table.specs.Fits.{all_fit};
-ghost use Rattle.sequence_table.specs.Sources.{accepted_count, acked, phase};
+ghost use Rattle.record_batch.specs.Sequences.Destinations.{front, has_end, held, is_stopped};
+ghost use Rattle.record_batch.specs.Sequences.Fits.{all_fit};
+ghost use Rattle.record_batch.specs.Sequences.Sources.{accepted_count, acked, phase};
 
 use crate::numbers::has_all;
 use rm_sides::ranges::{Range, RangeSet};

@@ -1,14 +1,14 @@
 //! An incoming sequence that is sought once, for many looks.
 ghost use Rattle.std.specs.Prelude.{◌≡◌, List, Option, Some};
 ghost use Rattle.record_batch.specs.Fact.{Fact};
-ghost use Rattle.sequence_table.specs.Find.{find_incoming};
-ghost use Rattle.sequence_table.specs.Idents.{IsIssuedFor};
-ghost use Rattle.sequence_table.specs.Makers.{number};
+ghost use Rattle.record_batch.specs.Sequences.Find.{find_incoming};
+ghost use Rattle.record_batch.specs.Sequences.Idents.{IsIssuedFor};
+ghost use Rattle.record_batch.specs.Sequences.Makers.{number};
 ghost use Rattle.tables_ahead.specs.Known.{IsSought};
 
 use node_tables::Tables;
 use rm_base::Ident;
-use sequence_table::issued_counter;
+use record_batch::sequences::issued_counter;
 
 /// What was sought: the number that the node issued an identifier for, and the incoming sequence that has it. Where
 /// there is no number nothing was.

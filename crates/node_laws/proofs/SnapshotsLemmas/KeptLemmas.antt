@@ -4,18 +4,18 @@ use Rattle.rm_sides.specs.Ranges.Laws.{EndsAreRight, SameNumbersSameRanges, Unio
 use Rattle.rm_base.specs.Limits as limits
 use Rattle.rm_base.specs.Numbered.{numbered}
 use Rattle.record_batch.specs.Fact.{Fact, Made, Acked}
-use Rattle.sequence_table.specs.Fits.{all_fit, is_incoming_side, is_outgoing_side}
-use Rattle.sequence_table.specs.Makers.{Maker, maker}
+use Rattle.record_batch.specs.Sequences.Fits.{all_fit, is_incoming_side, is_outgoing_side}
+use Rattle.record_batch.specs.Sequences.Makers.{Maker, maker}
 use Rattle.node_laws.specs.Records.{AreValues, BeginsWithMade, HasValues, IsKept, KeepsLimits}
-use Rattle.record_snapshot.specs.EachLemmas.{each-acked, each-purged, keeps}
-use Rattle.record_snapshot.specs.FactLemmas.{facts-equal}
-use Rattle.record_snapshot.specs.GoneLemmas.{numbers-from-one}
-use Rattle.record_snapshot.specs.KeepLemmas.{snapshot-says}
-use Rattle.record_snapshot.specs.Same.{HasProper, HaveProper, UnionsAreSets}
-use Rattle.record_snapshot.specs.SameLemmas.{sets-unite, unacked-is-equal}
-use Rattle.record_snapshot.specs.Snapshot.{left_acked, passed, snapshot}
-use Rattle.record_snapshot.specs.WalkLemmas.{snapshot-fits}
-use Rattle.record_snapshot.specs.WrittenLemmas.{left-set, proper, snapshot-is-proper}
+use Rattle.record_batch.specs.Snapshot.EachLemmas.{each-acked, each-purged, keeps}
+use Rattle.record_batch.specs.Snapshot.FactLemmas.{facts-equal}
+use Rattle.record_batch.specs.Snapshot.GoneLemmas.{numbers-from-one}
+use Rattle.record_batch.specs.Snapshot.KeepLemmas.{snapshot-says}
+use Rattle.record_batch.specs.Snapshot.Same.{HasProper, HaveProper, UnionsAreSets}
+use Rattle.record_batch.specs.Snapshot.SameLemmas.{sets-unite, unacked-is-equal}
+use Rattle.record_batch.specs.Snapshot.Snapshot.{left_acked, passed, snapshot}
+use Rattle.record_batch.specs.Snapshot.WalkLemmas.{snapshot-fits}
+use Rattle.record_batch.specs.Snapshot.WrittenLemmas.{left-set, proper, snapshot-is-proper}
 
 proper_of : (f : Fact) → HasValues f → HasProper f
 proper_of (Acked seq ranges) h = proper 1 ranges h

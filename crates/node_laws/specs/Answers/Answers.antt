@@ -4,7 +4,7 @@ use Rattle.std.specs.List.{AllByRecursion}
 use Rattle.node_laws.specs.Sizes.Room.{HasRoom}
 use Rattle.node_laws.specs.Sizes.Typed.{IsTyped}
 use Rattle.record_batch.specs.Fact.{Fact, fact_of}
-use Rattle.sequence_table.specs.Fits.{all_fit}
+use Rattle.record_batch.specs.Sequences.Fits.{all_fit}
 use Rattle.rm_protocol.specs.Waiting.{Moves}
 use Rattle.rm_protocol.specs.Calls.{Answer, Cause, Outcome, Wish, NoSequence, WrongSide, PayloadTooLong, BadPayload}
 use Rattle.rm_protocol.specs.Calls.{NotOpen, WindowFull, NodeFull, Rollover, TooManySequences, StoreFull, Done}

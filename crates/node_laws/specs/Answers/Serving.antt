@@ -1,7 +1,7 @@
 -- What a node's records give to its calls.
 use Rattle.std.specs.Prelude.{ℕ, ◌<◌, ◌≤◌, ◌^◌, List}
 use Rattle.record_batch.specs.Fact.{Fact}
-use Rattle.sequence_table.specs.Makers.{counter}
+use Rattle.record_batch.specs.Sequences.Makers.{counter}
 use Rattle.node_laws.specs.Records.{BeginsWithMade}
 
 -- the first record is Made, no more numbers were drawn than bytes were written, and the journal, which ends at this

@@ -2,8 +2,8 @@
 use Rattle.std.specs.Prelude.{List}
 use Rattle.record_batch.specs.Fact.{Fact}
 use Rattle.node_laws.specs.Records.{IsKept}
-use Rattle.record_snapshot.specs.Same.{HaveProper, UnionsAreSets}
-use Rattle.record_snapshot.specs.Snapshot.{snapshot}
+use Rattle.record_batch.specs.Snapshot.Same.{HaveProper, UnionsAreSets}
+use Rattle.record_batch.specs.Snapshot.Snapshot.{snapshot}
 
 -- what a node accepts when it is mounted, it accepts in short
 abbrev pub SnapshotIsKept : Type 0

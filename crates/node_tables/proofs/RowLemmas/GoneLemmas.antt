@@ -11,9 +11,9 @@ use Rattle.rm_sides.specs.Ranges.Ranges.{RisesFrom, greatest_of}
 use Rattle.rm_base.specs.Message.{max_number}
 use Rattle.rm_sides.specs.Destination.Incoming.{Receiving, held, is_loose}
 use Rattle.rm_sides.specs.Destination.Messages.{is_empty, ranges_onto, run_to}
-use Rattle.sequence_table.specs.Fits.{is_up_to, is_first_run, is_set_from, may_be_gone}
-use Rattle.sequence_table.specs.SetLemmas.{is-set, set-up_to}
-use Rattle.sequence_table.specs.Told.{Receives}
+use Rattle.record_batch.specs.Sequences.Fits.{is_up_to, is_first_run, is_set_from, may_be_gone}
+use Rattle.record_batch.specs.Sequences.SetLemmas.{is-set, set-up_to}
+use Rattle.record_batch.specs.Sequences.Told.{Receives}
 use Rattle.node_tables.specs.Row.Row.{takes_purged}
 
 -- numbers that are put in leave ranges

@@ -5,7 +5,7 @@ use Rattle.std.specs.List.{list_all}
 use Rattle.std.proofs.lemmas.Bool.{cases_Bool, le-leb, leb-true, and_from, and_right}
 use Rattle.rm_sides.specs.declared.ranges.range.Range.{Range}
 use Rattle.rm_sides.specs.Ranges.Ranges.{RisesFrom, greatest_of}
-use Rattle.sequence_table.specs.Fits.{is_up_to}
+use Rattle.record_batch.specs.Sequences.Fits.{is_up_to}
 
 first_below : (first : ℕ) (r : Range) (rs : List Range) → RisesFrom first (r ∷ rs) → r.upper ≤ greatest_of (r ∷ rs)
 first_below first r [] h = omega arith

@@ -18,9 +18,9 @@ use Rattle.std.specs.List.{list_all}
 use Rattle.record_batch.specs.Fact.{Fact, Created, Accepted, Acked, Received, Closing, ClosedOut, Closed}
 use Rattle.record_batch.specs.Fact.{Ending}
 use Rattle.record_batch.specs.Fact.{EndedOut, Ended, Failed, Consumed, Dropped, Purged}
-use Rattle.sequence_table.specs.Makers.{Maker, maker, counter}
-use Rattle.sequence_table.specs.Fits.{fits, follows, is_up_to, may_be_gone}
-use Rattle.sequence_table.specs.Told.{Told, Side, Sends, Receives, names, side_of, after}
+use Rattle.record_batch.specs.Sequences.Makers.{Maker, maker, counter}
+use Rattle.record_batch.specs.Sequences.Fits.{fits, follows, is_up_to, may_be_gone}
+use Rattle.record_batch.specs.Sequences.Told.{Told, Side, Sends, Receives, names, side_of, after}
 use Rattle.node_tables.specs.declared.row.row.Core.{Core}
 use Rattle.node_tables.specs.declared.row.row.Core.TheVariants as core
 use Rattle.node_tables.specs.declared.row.row.Start.{Start}

@@ -15,11 +15,12 @@ use Rattle.rm_sides.specs.Destination.Incoming.{Receiving}
 use Rattle.record_batch.specs.Fact.{Fact, Created, Accepted, Acked, Received, Closing, ClosedOut, Closed}
 use Rattle.record_batch.specs.Fact.{Ending}
 use Rattle.record_batch.specs.Fact.{EndedOut, Ended, Failed, Consumed, Dropped, Purged}
-use Rattle.sequence_table.specs.Words.{at_seq, last_or}
-use Rattle.sequence_table.specs.Sources.{accepted_of, acked_of, dropped_of, mark_of, ticket_of}
-use Rattle.sequence_table.specs.Destinations.{close_of, cursor_of, purged_of, received_of, told_of}
-use Rattle.sequence_table.specs.Told.{Told, Side, Sends, Receives, names, last_onto, opened_by, side_after, after}
-use Rattle.sequence_table.specs.ToldLemmas.{same_sending, same_receiving, same_told}
+use Rattle.record_batch.specs.Sequences.Words.{at_seq, last_or}
+use Rattle.record_batch.specs.Sequences.Sources.{accepted_of, acked_of, dropped_of, mark_of, ticket_of}
+use Rattle.record_batch.specs.Sequences.Destinations.{close_of, cursor_of, purged_of, received_of, told_of}
+use Rattle.record_batch.specs.Sequences.Told.{Told, Side, Sends, Receives, names, last_onto, opened_by, side_after}
+use Rattle.record_batch.specs.Sequences.Told.{after}
+use Rattle.record_batch.specs.Sequences.ToldLemmas.{same_sending, same_receiving, same_told}
 use Rattle.node_tables.specs.Row.Row.{takes, last_told, side_step, ticket_step, step}
 
 here : (s : ℕ) → (s == s) ≡ true

@@ -14,14 +14,14 @@ use Rattle.record_batch.specs.Fact.{Fact, Made, Creating, Granted, Created, Acce
 use Rattle.record_batch.specs.Fact.{Closing}
 use Rattle.record_batch.specs.Fact.{ClosedOut, Closed, Ending, EndedOut, Ended, Failed, Consumed, Dropped, Purged}
 use Rattle.rm_sides.specs.Destination.Messages.{is_empty as no_items}
-use Rattle.sequence_table.specs.Makers.{Maker, Outgoing, maker, counter}
-use Rattle.sequence_table.specs.Sources.{accepted_count, phase}
+use Rattle.record_batch.specs.Sequences.Makers.{Maker, Outgoing, maker, counter}
+use Rattle.record_batch.specs.Sequences.Sources.{accepted_count, phase}
 use Rattle.rm_sides.specs.Destination.Messages.{any_true as has_true}
 use Rattle.rm_sides.specs.Destination.Incoming.{inbox_of, is_loose}
-use Rattle.sequence_table.specs.Destinations.{behaviour_of, closes, cursor, held, items, told}
-use Rattle.sequence_table.specs.Fits.{fits, follows, is_outgoing_side, is_incoming_side, is_up_to}
-use Rattle.sequence_table.specs.Fits.{may_be_gone}
-use Rattle.sequence_table.specs.Told.{names, side_of}
+use Rattle.record_batch.specs.Sequences.Destinations.{behaviour_of, closes, cursor, held, items, told}
+use Rattle.record_batch.specs.Sequences.Fits.{fits, follows, is_outgoing_side, is_incoming_side, is_up_to}
+use Rattle.record_batch.specs.Sequences.Fits.{may_be_gone}
+use Rattle.record_batch.specs.Sequences.Told.{names, side_of}
 use Rattle.node_tables.specs.Row.Row.{takes, draws_next, is_sender, is_receiver}
 
 same_empty : (xs : List Bool) → not (not (no_items xs)) ≡ is_empty xs

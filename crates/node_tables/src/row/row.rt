@@ -8,9 +8,9 @@ ghost use Rattle.rm_sides.specs.Source.Outgoing.{Sequence as OutSequence};
 ghost use Rattle.rm_sides.specs.Destination.Incoming.{Sequence as InSequence, held};
 ghost use Rattle.rm_sides.specs.Destination.Messages.{is_empty, any_true};
 ghost use Rattle.record_batch.specs.Fact.{fact_of};
-ghost use Rattle.sequence_table.specs.Fits.{follows, is_up_to, may_be_gone};
+ghost use Rattle.record_batch.specs.Sequences.Fits.{follows, is_up_to, may_be_gone};
 ghost use Rattle.rm_sides.specs.Destination.Incoming.{is_loose};
-ghost use Rattle.sequence_table.specs.Told.{Sends, Receives};
+ghost use Rattle.record_batch.specs.Sequences.Told.{Sends, Receives};
 ghost use Rattle.node_tables.specs.Row.Row.{
   is_moment,
   takes,

@@ -15,14 +15,14 @@ use Rattle.record_batch.specs.Fact.{Fact, Acked}
 use Rattle.rm_base.specs.Numbered.{numbered}
 use Rattle.rm_protocol.specs.Exact.{OthersWaitOn}
 use Rattle.rm_protocol.specs.Waiting.{is_waiting, waits_in, waits_of}
-use Rattle.sequence_table.specs.Fits.{fits, all_fit}
-use Rattle.sequence_table.specs.GatherLemmas.{flat_map-more}
-use Rattle.sequence_table.specs.Makers.{Maker, Outgoing, Offered, Incoming, Taken, maker, makers, makers_of}
-use Rattle.sequence_table.specs.NameLemmas.{names-within}
-use Rattle.sequence_table.specs.Sources.{acked_of, is_sending}
-use Rattle.sequence_table.specs.Told.{names, sending}
-use Rattle.sequence_table.specs.ToldLemmas.{sending-more}
-use Rattle.sequence_table.specs.Words.{Text}
+use Rattle.record_batch.specs.Sequences.Fits.{fits, all_fit}
+use Rattle.record_batch.specs.Sequences.GatherLemmas.{flat_map-more}
+use Rattle.record_batch.specs.Sequences.Makers.{Maker, Outgoing, Offered, Incoming, Taken, maker, makers, makers_of}
+use Rattle.record_batch.specs.Sequences.NameLemmas.{names-within}
+use Rattle.record_batch.specs.Sequences.Sources.{acked_of, is_sending}
+use Rattle.record_batch.specs.Sequences.Told.{names, sending}
+use Rattle.record_batch.specs.Sequences.ToldLemmas.{sending-more}
+use Rattle.record_batch.specs.Sequences.Words.{Text}
 use Rattle.node_waits.specs.declared.keys.touched.Touched.{Touched}
 use Rattle.node_waits.specs.Keys.Settled.{all_of, is_touched, is_within, touched_by}
 

@@ -10,7 +10,7 @@ use Rattle.timers.specs.Keys.Keyed.{Keyed, StandsFor, Steps}
 use Rattle.timers.specs.Keys.Waits.{Wait, send_all}
 use Rattle.record_batch.specs.Fact.{Fact}
 use Rattle.rm_protocol.specs.Exact.{OthersWaitOn}
-use Rattle.sequence_table.specs.Fits.{all_fit}
+use Rattle.record_batch.specs.Sequences.Fits.{all_fit}
 use Rattle.rm_protocol.specs.Waiting.{is_waiting}
 use Rattle.node_waits.specs.declared.keys.touched.Touched.{Touched}
 use Rattle.node_waits.specs.Keys.Settled.{is_kept, is_touched, is_within, settled, settled_all, settled_cells}

@@ -13,7 +13,7 @@ use Rattle.timers.specs.declared.slots.timers.Key.{Key}
 use Rattle.timers.specs.Keys.Keyed.{Keyed, StandsFor, keys_in, is_before}
 use Rattle.timers.specs.Keys.Waits.{Wait, fresh}
 use Rattle.record_batch.specs.Fact.{Fact}
-use Rattle.sequence_table.specs.Makers.{Maker, makers, maker}
+use Rattle.record_batch.specs.Sequences.Makers.{Maker, makers, maker}
 use Rattle.rm_protocol.specs.Waiting.{key, is_waiting, numbers_from, keys_at, keys_from}
 use Rattle.node_waits.specs.Keys.Settled.{count_of}
 use Rattle.node_waits.specs.Keys.Filled.{AllBefore, Filled, own_waiting}

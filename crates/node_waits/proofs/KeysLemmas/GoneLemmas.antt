@@ -11,10 +11,10 @@ use Rattle.rm_sides.specs.Ranges.Changes.{united, with_range}
 use Rattle.timers.specs.declared.slots.timers.Key.{Key}
 use Rattle.record_batch.specs.Fact.{Fact, Acked, Dropped}
 use Rattle.rm_sides.specs.Source.Outgoing.{accepted_count as accepted_in, first_run}
-use Rattle.sequence_table.specs.Makers.{Maker, Outgoing, Offered, Incoming, Taken, maker}
-use Rattle.sequence_table.specs.Sources.{acked, acked_of, dropped, dropped_of, is_sending}
-use Rattle.sequence_table.specs.Told.{sending}
-use Rattle.sequence_table.specs.Words.{last_or}
+use Rattle.record_batch.specs.Sequences.Makers.{Maker, Outgoing, Offered, Incoming, Taken, maker}
+use Rattle.record_batch.specs.Sequences.Sources.{acked, acked_of, dropped, dropped_of, is_sending}
+use Rattle.record_batch.specs.Sequences.Told.{sending}
+use Rattle.record_batch.specs.Sequences.Words.{last_or}
 use Rattle.rm_protocol.specs.Waiting.{is_waiting, key, waits_in, waits_of}
 use Rattle.node_waits.specs.Keys.Filled.{NoneWaits, own_waiting}
 use Rattle.node_waits.proofs.KeysLemmas.AckedLemmas.{with-numbers}

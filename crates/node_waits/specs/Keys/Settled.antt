@@ -12,9 +12,9 @@ use Rattle.timers.specs.Keys.Waits.{Wait, has_key, begin_all, send_all, urge_all
 use Rattle.node_waits.specs.declared.keys.touched.Touched.{Touched}
 use Rattle.record_batch.specs.Fact.{Fact, Acked}
 use Rattle.rm_protocol.specs.Waiting.{is_waiting, key_count, still}
-use Rattle.sequence_table.specs.Told.{names}
-use Rattle.sequence_table.specs.Fits.{all_fit}
-use Rattle.sequence_table.specs.Makers.{Maker}
+use Rattle.record_batch.specs.Sequences.Told.{names}
+use Rattle.record_batch.specs.Sequences.Fits.{all_fit}
+use Rattle.record_batch.specs.Sequences.Makers.{Maker}
 
 -- the number is in the range, where there is one
 abbrev pub has_number : Option Range → ℕ → Bool

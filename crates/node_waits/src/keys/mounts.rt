@@ -6,7 +6,7 @@ ghost use Rattle.node_waits.specs.Keys.Settled.{count_of as count_of_made};
 ghost use Rattle.rm_base.specs.Limits.{most_keys};
 ghost use Rattle.rm_base.specs.Message.{max_number};
 ghost use Rattle.rm_protocol.specs.Waiting.{key as key_of, waiting_keys};
-ghost use Rattle.sequence_table.specs.Makers.{maker};
+ghost use Rattle.record_batch.specs.Sequences.Makers.{maker};
 
 use crate::keys::waiting::waits;
 use timers::keys::KeyTimers;

@@ -1,7 +1,7 @@
 //! Whether a key waits, as the tables tell it.
 ghost use Rattle.std.specs.Prelude.{◌≡◌};
 ghost use Rattle.rm_protocol.specs.Waiting.{is_requesting as is_requesting_in, is_waiting, waits_in as waits_in_of};
-ghost use Rattle.sequence_table.specs.Sources.{is_sending as is_sending_in};
+ghost use Rattle.record_batch.specs.Sequences.Sources.{is_sending as is_sending_in};
 
 use node_tables::Tables;
 use node_tables::laws::an_outgoing_sequence_is_as_recorded;

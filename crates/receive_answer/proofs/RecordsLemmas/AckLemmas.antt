@@ -12,11 +12,11 @@ use Rattle.rm_message.specs.declared.elements.lifecycle.Lifecycle.TheVariants as
 use Rattle.rm_message.specs.declared.message.Body.{Body}
 use Rattle.rm_message.specs.declared.message.Body.TheVariants as body
 use Rattle.record_batch.specs.Fact.{Fact, Acked, ClosedOut}
-use Rattle.sequence_table.specs.Destinations.{received, received_of}
-use Rattle.sequence_table.specs.Find.{find_from, find_outgoing, is_granted}
-use Rattle.sequence_table.specs.Makers.{Maker, counter, draws_of, makers, makers_of}
-use Rattle.sequence_table.specs.Sources.{acked, is_sending, phase}
-use Rattle.sequence_table.specs.Words.{Text}
+use Rattle.record_batch.specs.Sequences.Destinations.{received, received_of}
+use Rattle.record_batch.specs.Sequences.Find.{find_from, find_outgoing, is_granted}
+use Rattle.record_batch.specs.Sequences.Makers.{Maker, counter, draws_of, makers, makers_of}
+use Rattle.record_batch.specs.Sequences.Sources.{acked, is_sending, phase}
+use Rattle.record_batch.specs.Sequences.Words.{Text}
 use Rattle.rm_protocol.specs.Addresses.{is_nowhere}
 use Rattle.rm_protocol.specs.Rows.{ack_at, ack_row, ack_rows, final_at, final_row, ranges_of}
 use Rattle.rm_protocol.specs.Verdict.{refuses_create}

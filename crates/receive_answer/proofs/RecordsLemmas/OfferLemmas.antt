@@ -6,9 +6,9 @@ use Rattle.std.proofs.lemmas.Bool.{ne_eqb}
 use Rattle.std.proofs.lemmas.Option.{slice_get_past}
 use Rattle.rm_base.specs.declared.message.Cause.TheVariants.{NotTaken}
 use Rattle.record_batch.specs.Fact.{Ended}
-use Rattle.sequence_table.specs.Destinations.{has_end}
-use Rattle.sequence_table.specs.Find.{is_offered}
-use Rattle.sequence_table.specs.Makers.{maker, makers}
+use Rattle.record_batch.specs.Sequences.Destinations.{has_end}
+use Rattle.record_batch.specs.Sequences.Find.{is_offered}
+use Rattle.record_batch.specs.Sequences.Makers.{maker, makers}
 use Rattle.rm_protocol.specs.Rows.{drop_at}
 use Rattle.tables_ahead.specs.Known.{all_records, KnownRecords}
 use Rattle.receive_answer.specs.Records.WithRow.{with_row}

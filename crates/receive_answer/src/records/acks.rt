@@ -2,7 +2,7 @@
 ghost use Rattle.std.specs.Prelude.{◌≡◌, [], ◌∷◌, IfOk, OnOk};
 ghost use Rattle.std.specs.List.{AllByRecursion};
 ghost use Rattle.rm_sides.specs.Ranges.Changes.{united};
-ghost use Rattle.sequence_table.specs.Sources.{is_sending as is_sending_in};
+ghost use Rattle.record_batch.specs.Sequences.Sources.{is_sending as is_sending_in};
 ghost use Rattle.rm_protocol.specs.Next.{HasRanges, IsNumberRange};
 ghost use Rattle.rm_protocol.specs.Rows.{
   ack_at as ack_at_of,

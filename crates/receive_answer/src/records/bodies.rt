@@ -1,8 +1,8 @@
 //! The rows of messages, and of the elements that answer, close and end a sequence: WS-ReliableMessaging 1.2, sections
 //! 3.4 to 3.7.
 ghost use Rattle.std.specs.Prelude.{◌≡◌, ℕ, [], OnOk};
-ghost use Rattle.sequence_table.specs.Destinations.{received};
-ghost use Rattle.sequence_table.specs.Find.{find_incoming, find_outgoing};
+ghost use Rattle.record_batch.specs.Sequences.Destinations.{received};
+ghost use Rattle.record_batch.specs.Sequences.Find.{find_incoming, find_outgoing};
 ghost use Rattle.rm_protocol.specs.Rows.{
   close_at,
   closed_at,

@@ -1,7 +1,7 @@
 //! The row of a CreateSequence: WS-ReliableMessaging 1.2, section 3.4.
 ghost use Rattle.std.specs.Prelude.{◌≡◌, ◌<◌, ◌^◌, ◌++◌, length, false, OnOk};
 ghost use Rattle.rm_base.specs.Limits.{most_sequences};
-ghost use Rattle.sequence_table.specs.Makers.{counter, makers};
+ghost use Rattle.record_batch.specs.Sequences.Makers.{counter, makers};
 ghost use Rattle.rm_protocol.specs.Rows.{create_at, create_row as create_row_of};
 ghost use Rattle.rm_protocol.specs.Terms.{Terms};
 ghost use Rattle.rm_protocol.specs.Verdict.{refuses_create};

@@ -2,8 +2,8 @@
 //! 3.4.
 ghost use Rattle.std.specs.Prelude.{◌≡◌, ◌+◌, ◌-◌, ◌++◌, ◌&&◌, not, nat_lt, length, is_none, IfOk, OnOk};
 ghost use Rattle.rm_base.specs.Limits.{most_sequences};
-ghost use Rattle.sequence_table.specs.Find.{find_outgoing, is_offered as is_offered_by};
-ghost use Rattle.sequence_table.specs.Makers.{maker, makers};
+ghost use Rattle.record_batch.specs.Sequences.Find.{find_outgoing, is_offered as is_offered_by};
+ghost use Rattle.record_batch.specs.Sequences.Makers.{maker, makers};
 ghost use Rattle.rm_protocol.specs.Addresses.{
   is_anonymous as is_anonymous_text,
   is_nowhere as is_nowhere_text,

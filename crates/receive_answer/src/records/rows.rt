@@ -1,8 +1,8 @@
 //! The rows of the receiving table.
 ghost use Rattle.std.specs.Prelude.{◌≡◌, ℕ, ◌<◌, ◌^◌, ◌++◌, [], false, OnOk};
 ghost use Rattle.std.specs.List.{AllByRecursion};
-ghost use Rattle.sequence_table.specs.Destinations.{received};
-ghost use Rattle.sequence_table.specs.Makers.{counter};
+ghost use Rattle.record_batch.specs.Sequences.Destinations.{received};
+ghost use Rattle.record_batch.specs.Sequences.Makers.{counter};
 ghost use Rattle.rm_protocol.specs.Next.{HasRanges};
 ghost use Rattle.rm_protocol.specs.Rows.{body_row as body_row_of, rows};
 ghost use Rattle.rm_protocol.specs.Terms.{Terms};

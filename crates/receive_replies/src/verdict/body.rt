@@ -1,8 +1,8 @@
 //! What the body of a message asks for: WS-ReliableMessaging 1.2, section 3.4, and WS-MakeConnection 1.1, section 3.2.
 ghost use Rattle.std.specs.Prelude.{◌≡◌, ◌++◌, ◌&&◌, ◌||◌, nat_le, is_none, length};
 ghost use Rattle.rm_base.specs.Limits.{most_sequences};
-ghost use Rattle.sequence_table.specs.Find.{find_grant as find_grant_in};
-ghost use Rattle.sequence_table.specs.Makers.{makers};
+ghost use Rattle.record_batch.specs.Sequences.Find.{find_grant as find_grant_in};
+ghost use Rattle.record_batch.specs.Sequences.Makers.{makers};
 ghost use Rattle.rm_protocol.specs.Addresses.{is_nowhere as is_nowhere_text};
 ghost use Rattle.rm_protocol.specs.Verdict.{
   is_fault_body as is_fault_body_of,

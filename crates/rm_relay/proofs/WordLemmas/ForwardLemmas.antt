@@ -9,12 +9,12 @@ use Rattle.std.proofs.lemmas.List.Concat.{flat_map-append}
 use Rattle.rm_base.specs.Numbered.{numbered}
 use Rattle.rm_base.specs.declared.message.Payload.{Payload}
 use Rattle.record_batch.specs.Fact.{Fact, Accepted}
-use Rattle.sequence_table.specs.Words.{Text}
-use Rattle.sequence_table.specs.Destinations.{released, texts}
-use Rattle.sequence_table.specs.Find.{find_from}
-use Rattle.sequence_table.specs.Fits.{is_incoming_side, is_outgoing_side}
-use Rattle.sequence_table.specs.Makers.{Maker, makers, makers_of}
-use Rattle.sequence_table.specs.Sources.{accepted, accepted_of}
+use Rattle.record_batch.specs.Sequences.Words.{Text}
+use Rattle.record_batch.specs.Sequences.Destinations.{released, texts}
+use Rattle.record_batch.specs.Sequences.Find.{find_from}
+use Rattle.record_batch.specs.Sequences.Fits.{is_incoming_side, is_outgoing_side}
+use Rattle.record_batch.specs.Sequences.Makers.{Maker, makers, makers_of}
+use Rattle.record_batch.specs.Sequences.Sources.{accepted, accepted_of}
 use Rattle.rm_protocol.specs.Consumed.{GoesOn}
 use Rattle.rm_protocol.specs.Word.{IsPrefixOf}
 use Rattle.rm_relay.specs.Word.Ends.{first_incoming, first_outgoing}

@@ -5,10 +5,11 @@ use Rattle.std.specs.Prelude.{Some, None}
 use Rattle.std.specs.List.{AllByRecursion}
 use Rattle.std.proofs.lemmas.Bool.{eqb-true}
 use Rattle.record_batch.specs.Fact.{Fact, Created, Granted}
-use Rattle.sequence_table.specs.Words.{Text}
-use Rattle.sequence_table.specs.Find.{IsOutgoing}
-use Rattle.sequence_table.specs.Makers.{Maker, Outgoing, Offered, Incoming, Taken, address, created_from, ident_in}
-use Rattle.sequence_table.specs.Makers.{maker, makers, makers_of, number}
+use Rattle.record_batch.specs.Sequences.Words.{Text}
+use Rattle.record_batch.specs.Sequences.Find.{IsOutgoing}
+use Rattle.record_batch.specs.Sequences.Makers.{Maker, Outgoing, Offered, Incoming, Taken, address, created_from}
+use Rattle.record_batch.specs.Sequences.Makers.{ident_in}
+use Rattle.record_batch.specs.Sequences.Makers.{maker, makers, makers_of, number}
 use Rattle.rm_protocol.specs.Pair.{TellsOf}
 use Rattle.rm_protocol.specs.Sound.{IfWith, IsAgreed, IsAsked, IsIssuedBy, IsWith, Justified, asked_with}
 use Rattle.rm_relay.specs.Word.Roles.{HasRole, IsOfRole, Known, before, behind}

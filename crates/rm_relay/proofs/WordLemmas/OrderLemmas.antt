@@ -6,8 +6,8 @@ use Rattle.rm_base.specs.declared.message.Behaviour.{Behaviour}
 use Rattle.rm_base.specs.declared.message.Behaviour.TheVariants.{FollowingFirstGap}
 use Rattle.record_batch.specs.Fact.{Fact, Creating, Granted}
 use Rattle.rm_sides.specs.Destination.Incoming.{is_loose}
-use Rattle.sequence_table.specs.Destinations.{behaviour, behaviour_of}
-use Rattle.sequence_table.specs.Makers.{Maker, Outgoing, Offered, Incoming, Taken, maker, makers, makers_of}
+use Rattle.record_batch.specs.Sequences.Destinations.{behaviour, behaviour_of}
+use Rattle.record_batch.specs.Sequences.Makers.{Maker, Outgoing, Offered, Incoming, Taken, maker, makers, makers_of}
 use Rattle.rm_protocol.specs.Announced.{IsGrantedSo}
 use Rattle.rm_relay.specs.Word.Roles.{HasRole, IsOfRole}
 use Rattle.rm_relay.specs.declared.word.station.Station.{Station}

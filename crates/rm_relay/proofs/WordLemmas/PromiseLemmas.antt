@@ -4,13 +4,13 @@ use Rattle.std.proofs.Common.{subst, append-nil, inl, inr}
 use Rattle.std.specs.Prelude.{Option, Some}
 use Rattle.std.proofs.lemmas.List.Concat.{flat_map-append}
 use Rattle.record_batch.specs.Fact.{Fact}
-use Rattle.record_snapshot.specs.Snapshot.{snapshot}
-use Rattle.sequence_table.specs.Destinations.{cursor, released, texts}
-use Rattle.sequence_table.specs.Find.{IsIncoming, find_from, incoming_of}
-use Rattle.sequence_table.specs.Fits.{is_incoming_side, is_outgoing_side}
-use Rattle.sequence_table.specs.Makers.{Maker, Outgoing, Offered, Incoming, Taken, maker, makers, number}
-use Rattle.sequence_table.specs.Sources.{accepted, accepted_count}
-use Rattle.sequence_table.specs.Words.{Text}
+use Rattle.record_batch.specs.Snapshot.Snapshot.{snapshot}
+use Rattle.record_batch.specs.Sequences.Destinations.{cursor, released, texts}
+use Rattle.record_batch.specs.Sequences.Find.{IsIncoming, find_from, incoming_of}
+use Rattle.record_batch.specs.Sequences.Fits.{is_incoming_side, is_outgoing_side}
+use Rattle.record_batch.specs.Sequences.Makers.{Maker, Outgoing, Offered, Incoming, Taken, maker, makers, number}
+use Rattle.record_batch.specs.Sequences.Sources.{accepted, accepted_count}
+use Rattle.record_batch.specs.Sequences.Words.{Text}
 use Rattle.rm_protocol.specs.AloneLemmas.{records-alone}
 use Rattle.rm_protocol.specs.Crashes.{IsLeft, IsLeftWith}
 use Rattle.rm_protocol.specs.Node.{Node, State, Up, Writing, Compacting, entries_left, mounted, records, records_in}

@@ -19,13 +19,13 @@ use Rattle.rm_sides.specs.Destination.Messages.{sorted_onto}
 use Rattle.rm_sides.specs.Destination.Messages.{there_items, without_gap}
 use Rattle.rm_sides.specs.Destination.Incoming.{inbox_of, is_loose, is_whole_by, last_number}
 use Rattle.record_batch.specs.Fact.{Fact, Received, Purged}
-use Rattle.sequence_table.specs.Destinations.{behaviour, cursor, inbox, items, messages, purged, received}
-use Rattle.sequence_table.specs.Destinations.{received_of, released, told}
-use Rattle.sequence_table.specs.Makers.{maker}
-use Rattle.record_snapshot.specs.FactLemmas.{behaviour_same, messages_same, not-ordered, told_same}
-use Rattle.record_snapshot.specs.ItemLemmas.{whole-marked}
-use Rattle.record_snapshot.specs.PastLemmas.{from-one, inbox-past-is-there, whole-gap}
-use Rattle.record_snapshot.specs.Same.{AreNumbers, all_marked, gone_count}
+use Rattle.record_batch.specs.Sequences.Destinations.{behaviour, cursor, inbox, items, messages, purged, received}
+use Rattle.record_batch.specs.Sequences.Destinations.{received_of, released, told}
+use Rattle.record_batch.specs.Sequences.Makers.{maker}
+use Rattle.record_batch.specs.Snapshot.FactLemmas.{behaviour_same, messages_same, not-ordered, told_same}
+use Rattle.record_batch.specs.Snapshot.ItemLemmas.{whole-marked}
+use Rattle.record_batch.specs.Snapshot.PastLemmas.{from-one, inbox-past-is-there, whole-gap}
+use Rattle.record_batch.specs.Snapshot.Same.{AreNumbers, all_marked, gone_count}
 use Rattle.rm_protocol.specs.Pair.{HasNumber}
 use Rattle.rm_protocol.specs.Sound.{Keeps, NothingIsGone}
 use Rattle.rm_protocol.specs.Word.{Has}

@@ -11,8 +11,8 @@ use Rattle.rm_message.specs.declared.message.Body.TheVariants as body
 use Rattle.rm_message.specs.declared.message.Message.{Message}
 use Rattle.record_batch.specs.declared.record.PeerOffer.{PeerOffer}
 use Rattle.record_batch.specs.Fact.{Fact, Made, Creating, Granted}
-use Rattle.sequence_table.specs.Words.{Text, first_or}
-use Rattle.sequence_table.specs.Makers.{address, addresses_of, makers, makers_of, number}
+use Rattle.record_batch.specs.Sequences.Words.{Text, first_or}
+use Rattle.record_batch.specs.Sequences.Makers.{address, addresses_of, makers, makers_of, number}
 use Rattle.rm_protocol.specs.Calls.{Wish}
 use Rattle.rm_protocol.specs.Heard.{Heard}
 use Rattle.rm_protocol.specs.Node.{Node, Writing}

@@ -12,12 +12,12 @@ use Rattle.rm_script.specs.declared.event.Side.{Side}
 use Rattle.rm_script.specs.declared.event.Side.TheVariants as side
 use Rattle.record_batch.specs.Fact.{Fact, Accepted, Consumed, Dropped}
 use Rattle.rm_sides.specs.Destination.Messages.{item_at}
-use Rattle.sequence_table.specs.Destinations.{inbox}
-use Rattle.sequence_table.specs.Find.{find_from}
-use Rattle.sequence_table.specs.Fits.{is_incoming_side, is_outgoing_side}
-use Rattle.sequence_table.specs.Makers.{Maker, makers}
-use Rattle.sequence_table.specs.Sources.{accepted, accepted_count, dropped, dropped_of}
-use Rattle.sequence_table.specs.Words.{last_or}
+use Rattle.record_batch.specs.Sequences.Destinations.{inbox}
+use Rattle.record_batch.specs.Sequences.Find.{find_from}
+use Rattle.record_batch.specs.Sequences.Fits.{is_incoming_side, is_outgoing_side}
+use Rattle.record_batch.specs.Sequences.Makers.{Maker, makers}
+use Rattle.record_batch.specs.Sequences.Sources.{accepted, accepted_count, dropped, dropped_of}
+use Rattle.record_batch.specs.Sequences.Words.{last_or}
 use Rattle.rm_protocol.specs.Announced.{IsNoGrant}
 use Rattle.rm_protocol.specs.Calls.{Wish}
 use Rattle.rm_protocol.specs.Heard.{Heard}

@@ -10,9 +10,10 @@ use Rattle.rm_message.specs.declared.elements.lifecycle.Lifecycle.TheVariants as
 use Rattle.rm_message.specs.declared.message.Body.{Body}
 use Rattle.rm_message.specs.declared.message.Body.TheVariants as body
 use Rattle.record_batch.specs.Fact.{Fact}
-use Rattle.sequence_table.specs.Words.{Text}
-use Rattle.sequence_table.specs.Makers.{Maker, Outgoing, Offered, Incoming, Taken, address, maker, makers, number}
-use Rattle.sequence_table.specs.Find.{IsIncoming, IsOutgoing, incoming_of}
+use Rattle.record_batch.specs.Sequences.Words.{Text}
+use Rattle.record_batch.specs.Sequences.Makers.{Maker, Outgoing, Offered, Incoming, Taken, address, maker, makers}
+use Rattle.record_batch.specs.Sequences.Makers.{number}
+use Rattle.record_batch.specs.Sequences.Find.{IsIncoming, IsOutgoing, incoming_of}
 use Rattle.rm_protocol.specs.Pair.{AsksNone, IsForeignBlock, IsForeignCreate, IsForeignData, IsForeignEnd}
 use Rattle.rm_protocol.specs.Pair.{IsForeignResponse, IssuedByOne, ReceivesNone, TellsOf}
 use Rattle.rm_protocol.specs.Sound.{IsAsked, IsIssuedBy, IsWith, SaysBlock, SaysCreate, SaysData, SaysFinal}

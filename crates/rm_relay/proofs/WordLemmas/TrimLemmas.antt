@@ -11,11 +11,11 @@ use Rattle.rm_sides.specs.Ranges.Laws.{EndsAreRight}
 use Rattle.rm_sides.specs.Ranges.Ranges.{front_of}
 use Rattle.rm_base.specs.NumberSet.{greatest_of}
 use Rattle.record_batch.specs.Fact.{Fact, Consumed, Purged}
-use Rattle.record_snapshot.specs.Same.{HaveProper, IsLive, SetsUnite}
-use Rattle.sequence_table.specs.Destinations.{cursor, cursor_of}
-use Rattle.sequence_table.specs.Fits.{all_fit, is_incoming_side, is_outgoing_side}
-use Rattle.sequence_table.specs.GatherLemmas.{greatest_of-append}
-use Rattle.sequence_table.specs.Sources.{accepted, accepted_count, accepted_of, acked}
+use Rattle.record_batch.specs.Snapshot.Same.{HaveProper, IsLive, SetsUnite}
+use Rattle.record_batch.specs.Sequences.Destinations.{cursor, cursor_of}
+use Rattle.record_batch.specs.Sequences.Fits.{all_fit, is_incoming_side, is_outgoing_side}
+use Rattle.record_batch.specs.Sequences.GatherLemmas.{greatest_of-append}
+use Rattle.record_batch.specs.Sequences.Sources.{accepted, accepted_count, accepted_of, acked}
 use Rattle.rm_protocol.specs.Exact.{AckedWereAccepted}
 use Rattle.rm_relay.specs.Word.Ends.{acknowledged, first_incoming, first_outgoing}
 use Rattle.rm_relay.proofs.WordLemmas.ForwardLemmas.{first-add, same-some}

@@ -13,7 +13,7 @@ use Rattle.rm_protocol.specs.Pair.{IssuedByOne, MayBefall, MayGoOn, PairStep, Pa
 use Rattle.rm_protocol.specs.Pair.{TellsOf}
 use Rattle.rm_protocol.specs.Pair.{acted, left}
 use Rattle.rm_sides.specs.Ranges.Laws.{EndsAreRight}
-use Rattle.record_snapshot.specs.Same.{IsLive, SetsUnite}
+use Rattle.record_batch.specs.Snapshot.Same.{IsLive, SetsUnite}
 use Rattle.rm_protocol.specs.Exact.{AckedWereAccepted}
 use Rattle.rm_protocol.specs.Sound.{NothingIsGone, Says}
 use Rattle.rm_protocol.specs.Terms.{AreTerms, Terms}

@@ -5,11 +5,11 @@ use Rattle.rm_sides.specs.Ranges.Changes.{united}
 use Rattle.rm_base.specs.declared.message.Payload.{Payload}
 use Rattle.record_batch.specs.Fact.{Fact}
 use Rattle.rm_sides.specs.Destination.Messages.{item_at}
-use Rattle.sequence_table.specs.Destinations.{cursor, inbox}
-use Rattle.sequence_table.specs.Find.{find_from}
-use Rattle.sequence_table.specs.Fits.{is_incoming_side, is_outgoing_side}
-use Rattle.sequence_table.specs.Makers.{Maker, makers}
-use Rattle.sequence_table.specs.Sources.{accepted_count, acked}
+use Rattle.record_batch.specs.Sequences.Destinations.{cursor, inbox}
+use Rattle.record_batch.specs.Sequences.Find.{find_from}
+use Rattle.record_batch.specs.Sequences.Fits.{is_incoming_side, is_outgoing_side}
+use Rattle.record_batch.specs.Sequences.Makers.{Maker, makers}
+use Rattle.record_batch.specs.Sequences.Sources.{accepted_count, acked}
 
 -- the first incoming sequence
 abbrev pub first_incoming : List Fact → Option ℕ

@@ -7,8 +7,8 @@ use Rattle.std.proofs.lemmas.List.{at_drop_more}
 use Rattle.std.proofs.lemmas.Option.{slice_get-get_or}
 use Rattle.rm_base.specs.Numbered.{numbered}
 use Rattle.record_batch.specs.Fact.{Fact}
-use Rattle.sequence_table.specs.Find.{find_from}
-use Rattle.sequence_table.specs.Makers.{Maker, maker, makers}
+use Rattle.record_batch.specs.Sequences.Find.{find_from}
+use Rattle.record_batch.specs.Sequences.Makers.{Maker, maker, makers}
 
 -- whether a sequence passes the test
 abbrev pub tested : (Option Maker → Bool) → ℕ → Maker → Bool

@@ -3,9 +3,9 @@ use Rattle.std.specs.Prelude.{◌≡◌, ℕ, List, Option, Some, None}
 use Rattle.std.specs.List.{AllByRecursion}
 use Rattle.record_batch.specs.Fact.{Fact}
 use Rattle.rm_message.specs.declared.message.Message.{Message}
-use Rattle.sequence_table.specs.Find.{IsIncoming, IsOutgoing}
-use Rattle.sequence_table.specs.Makers.{Maker, Outgoing, Offered, Incoming, Taken, address, makers, number}
-use Rattle.sequence_table.specs.Words.{Text}
+use Rattle.record_batch.specs.Sequences.Find.{IsIncoming, IsOutgoing}
+use Rattle.record_batch.specs.Sequences.Makers.{Maker, Outgoing, Offered, Incoming, Taken, address, makers, number}
+use Rattle.record_batch.specs.Sequences.Words.{Text}
 use Rattle.rm_protocol.specs.Next.{HasNumbers}
 use Rattle.rm_protocol.specs.Pair.{IsStranger, TellsOf}
 use Rattle.rm_protocol.specs.Sound.{IsAsked, IsIssuedBy, Says}

@@ -2,7 +2,7 @@
 use Rattle.std.specs.Prelude.{ℕ, List}
 use Rattle.rm_base.specs.declared.message.Payload.{Payload}
 use Rattle.record_batch.specs.Fact.{Fact}
-use Rattle.sequence_table.specs.Destinations.{texts}
+use Rattle.record_batch.specs.Sequences.Destinations.{texts}
 use Rattle.rm_protocol.specs.Crashes.{IsLeft}
 use Rattle.rm_protocol.specs.Pair.{IsMade}
 use Rattle.rm_protocol.specs.Sound.{Keeps}

@@ -10,7 +10,7 @@ use Rattle.record_batch.specs.Fact.{Fact}
 use Rattle.record_batch.specs.declared.record.Via.TheVariants.{Direct}
 use Rattle.rm_script.specs.declared.event.Side.{Side}
 use Rattle.rm_script.specs.declared.event.Side.TheVariants as side
-use Rattle.sequence_table.specs.Words.{Text}
+use Rattle.record_batch.specs.Sequences.Words.{Text}
 use Rattle.rm_protocol.specs.Addresses.{BackOn, Out, Place, place_of}
 use Rattle.rm_protocol.specs.Calls.{Wish}
 use Rattle.rm_protocol.specs.Messages.{never}

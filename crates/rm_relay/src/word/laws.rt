@@ -3,7 +3,7 @@ ghost use Rattle.rm_relay.specs.Word.Roles.{IsStrangeToTheOthers};
 ghost use Rattle.rm_relay.specs.Word.Word.{EachRelayKeepsItsWord};
 
 use rm_sides::ranges::ends_are_right;
-use record_snapshot::laws::sets_unite;
+use record_batch::snapshot::laws::sets_unite;
 use rm_protocol::laws::{
     a_pair_tells, a_pair_turns, an_identifier_tells_its_node, two_made_nodes_are_a_pair,
     two_nodes_stay_a_pair, what_is_acknowledged_was_accepted, what_is_announced_stays,

@@ -15,7 +15,7 @@ use Rattle.rm_disk.specs.Journal.Entries.{Bank}
 use Rattle.rm_disk.specs.Journal.EntryLemmas.{length-gates_from}
 use Rattle.rm_disk.specs.Journal.JournalState.{end_of as journal_end}
 use Rattle.rm_message.specs.declared.message.Message.{Message}
-use Rattle.sequence_table.specs.Words.{Text}
+use Rattle.record_batch.specs.Sequences.Words.{Text}
 use Rattle.rm_protocol.specs.Calls.{Answer, Cause, Fetched, Outcome}
 use Rattle.rm_protocol.specs.Exact.{AreExactly}
 use Rattle.rm_protocol.specs.Delivered.{IsWriting}

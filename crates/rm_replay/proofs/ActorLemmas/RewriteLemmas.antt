@@ -3,7 +3,7 @@ use Rattle.std.proofs.Common.{◌≡◌, ◌∙◌, ◌⊎◌, ℕ, Bool, true, 
 use Rattle.std.proofs.Common.{◌+◌, ◌-◌, ◌^◌, min, Result, refl, sym, ap, subst, inl, inr}
 use Rattle.std.specs.Prelude.{IsTrue, MatchBool}
 use Rattle.record_batch.specs.Fact.{Fact}
-use Rattle.record_snapshot.specs.Snapshot.{snapshot}
+use Rattle.record_batch.specs.Snapshot.Snapshot.{snapshot}
 use Rattle.rm_base.specs.declared.failures.Memory.{Memory}
 use Rattle.rm_disk.specs.Call.{Call}
 use Rattle.rm_disk.specs.ImageLemmas.{left_now}

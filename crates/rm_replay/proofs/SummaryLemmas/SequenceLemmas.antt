@@ -12,10 +12,10 @@ use Rattle.rm_sides.specs.Destination.Messages.{Item, ranges_onto}
 use Rattle.rm_sides.specs.declared.destination.outcome.InPhase.{InPhase}
 use Rattle.rm_sides.specs.declared.destination.outcome.InPhase.TheVariants.{Open, Closed, Ended}
 use Rattle.record_batch.specs.Fact.{Fact}
-use Rattle.sequence_table.specs.Makers.{Maker, Outgoing, Offered, Incoming, Taken, maker, makers}
-use Rattle.sequence_table.specs.Destinations.{behaviour, behaviour_of, cursor, discarded, held, inbox}
-use Rattle.sequence_table.specs.Destinations.{is_ended}
-use Rattle.sequence_table.specs.Fits.{is_outgoing_side}
+use Rattle.record_batch.specs.Sequences.Makers.{Maker, Outgoing, Offered, Incoming, Taken, maker, makers}
+use Rattle.record_batch.specs.Sequences.Destinations.{behaviour, behaviour_of, cursor, discarded, held, inbox}
+use Rattle.record_batch.specs.Sequences.Destinations.{is_ended}
+use Rattle.record_batch.specs.Sequences.Fits.{is_outgoing_side}
 use Rattle.node_tables.specs.Kept.{no_maker}
 use Rattle.node_tables.specs.Laws.{IncomingIsAsRecorded, IsAsRecorded, OutgoingIsAsRecorded, is_end, is_shut}
 use Rattle.node_tables.specs.Reads.{incoming_in, incoming_of, outgoing_in, outgoing_of}

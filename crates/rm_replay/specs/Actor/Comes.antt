@@ -1,7 +1,7 @@
 -- How a call of a node that ended so is told.
 use Rattle.std.specs.Prelude.{◌≡◌, List, [], Option, None, Result, Ok, Err}
 use Rattle.rm_base.specs.declared.failures.Memory.{Memory}
-use Rattle.sequence_table.specs.Words.{Text}
+use Rattle.record_batch.specs.Sequences.Words.{Text}
 use Rattle.rm_node.specs.declared.packets.Out.{Out}
 use Rattle.rm_node.specs.Ends.{Ended, Handed, Refused, Wanted, Broke, WasDown}
 use Rattle.rm_report.specs.declared.line.Outcome.{Outcome}

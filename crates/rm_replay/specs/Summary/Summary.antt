@@ -5,11 +5,11 @@ use Rattle.rm_sides.specs.Destination.Messages.{Item, ranges_onto}
 use Rattle.rm_sides.specs.declared.destination.outcome.InPhase.{InPhase}
 use Rattle.rm_sides.specs.declared.destination.outcome.InPhase.TheVariants.{Open, Closed, Ended}
 use Rattle.record_batch.specs.Fact.{Fact}
-use Rattle.sequence_table.specs.Makers.{makers, maker}
-use Rattle.sequence_table.specs.Sources.{accepted_count, acked, phase}
-use Rattle.sequence_table.specs.Destinations.{behaviour, cursor, discarded, held, inbox, is_ended}
-use Rattle.sequence_table.specs.Destinations.{is_over}
-use Rattle.sequence_table.specs.Fits.{is_outgoing_side}
+use Rattle.record_batch.specs.Sequences.Makers.{makers, maker}
+use Rattle.record_batch.specs.Sequences.Sources.{accepted_count, acked, phase}
+use Rattle.record_batch.specs.Sequences.Destinations.{behaviour, cursor, discarded, held, inbox, is_ended}
+use Rattle.record_batch.specs.Sequences.Destinations.{is_over}
+use Rattle.record_batch.specs.Sequences.Fits.{is_outgoing_side}
 use Rattle.rm_report.specs.Report.{consumed_text, out_text, in_text, item_text}
 use Rattle.rm_report.specs.declared.summary.Place.{Place}
 

@@ -5,7 +5,7 @@ ghost use Rattle.rm_sides.specs.Destination.Incoming.{discarded, held, inbox, ph
 ghost use Rattle.rm_sides.specs.Destination.Messages.{ranges_onto};
 ghost use Rattle.rm_report.specs.Report.{consumed_text, in_text, out_text};
 ghost use Rattle.rm_sides.specs.Source.Outgoing.{accepted_count};
-ghost use Rattle.sequence_table.specs.Makers.{makers};
+ghost use Rattle.record_batch.specs.Sequences.Makers.{makers};
 ghost use Rattle.rm_replay.specs.Summary.Summary.{items_text, node_text, sequence_text, there_text};
 
 use node_tables::Tables;

@@ -3,9 +3,9 @@ use Rattle.std.specs.Prelude.{IfOk}
 use Rattle.std.specs.Option.{option_to_list}
 use Rattle.rm_message.specs.declared.elements.header.AckBlock.{AckBlock}
 use Rattle.rm_message.specs.declared.message.Message.{Message}
-use Rattle.sequence_table.specs.Words.{Text}
-use Rattle.sequence_table.specs.Idents.{issue}
-use Rattle.sequence_table.specs.Find.{acks_to}
+use Rattle.record_batch.specs.Sequences.Words.{Text}
+use Rattle.record_batch.specs.Sequences.Idents.{issue}
+use Rattle.record_batch.specs.Sequences.Find.{acks_to}
 use Rattle.rm_protocol.specs.Messages.{block_of}
 use Rattle.rm_protocol.specs.Said.{ack_to, own_messages}
 use Rattle.node_calls.proofs.AckLemmas.{final-said}

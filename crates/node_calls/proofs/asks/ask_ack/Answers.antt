@@ -1,6 +1,6 @@
 use Rattle.std.proofs.Common.{◌≡◌, subst, ◌∙◌}
 use Rattle.std.specs.Prelude.{IfOk}
-use Rattle.sequence_table.specs.Makers.{maker}
+use Rattle.record_batch.specs.Sequences.Makers.{maker}
 use Rattle.rm_protocol.specs.Calls.{Answer, ask_out}
 use Rattle.node_laws.specs.Answers.Answers.{seen}
 use Rattle.node_calls.proofs.AskLemmas.{refused-side, right-side}

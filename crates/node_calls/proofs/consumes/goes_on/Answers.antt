@@ -1,6 +1,6 @@
 use Rattle.std.proofs.Common.{◌∙◌, ℕ, ap}
 use Rattle.std.specs.Prelude.{nat_lt}
-use Rattle.sequence_table.specs.Makers.{maker}
+use Rattle.record_batch.specs.Sequences.Makers.{maker}
 use Rattle.node_calls.proofs.ConsumeLemmas.{cursor-known}
 use Rattle.node_calls.proofs.MissingLemmas.{side-there}
 use Rattle.node_calls.proofs.consumes.goes_on.Goals as goal

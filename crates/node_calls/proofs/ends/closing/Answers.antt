@@ -1,7 +1,7 @@
 use Rattle.std.proofs.Common.{◌≡◌, ℕ, ◌+◌, subst}
 use Rattle.std.specs.Prelude.{IfOk}
 use Rattle.record_batch.specs.Fact.{Closing}
-use Rattle.sequence_table.specs.Makers.{counter}
+use Rattle.record_batch.specs.Sequences.Makers.{counter}
 use Rattle.rm_protocol.specs.Calls.{Answer}
 use Rattle.node_laws.specs.Answers.Answers.{seen}
 use Rattle.node_calls.proofs.ComesLemmas.{IsWith, close-ticket, comes-closing, with-pushed}

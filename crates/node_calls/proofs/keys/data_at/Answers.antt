@@ -1,8 +1,8 @@
 use Rattle.std.proofs.Common.{◌≡◌, Option, Some, subst, sym, ◌∙◌}
 use Rattle.std.specs.Prelude.{IfOk}
 use Rattle.rm_message.specs.declared.message.Message.{Message}
-use Rattle.sequence_table.specs.Find.{peer}
-use Rattle.sequence_table.specs.Makers.{maker}
+use Rattle.record_batch.specs.Sequences.Find.{peer}
+use Rattle.record_batch.specs.Sequences.Makers.{maker}
 use Rattle.tables_ahead.specs.Known.{all_records}
 use Rattle.node_calls.proofs.KeyLemmas.{data-known, sends-to}
 use Rattle.node_calls.proofs.keys.data_at.Goals as goal

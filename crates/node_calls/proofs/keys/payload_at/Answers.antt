@@ -1,6 +1,6 @@
 use Rattle.std.proofs.Common.{◌≡◌, List, sym, ap, subst, ◌∙◌, None}
 use Rattle.record_batch.specs.Fact.{Fact}
-use Rattle.sequence_table.specs.Told.{sending}
+use Rattle.record_batch.specs.Sequences.Told.{sending}
 use Rattle.node_tables.specs.Reads.{outgoing_in}
 use Rattle.node_calls.proofs.KeyLemmas.{payload-none, payload-there}
 use Rattle.node_calls.proofs.keys.payload_at.Goals as goal

@@ -5,11 +5,11 @@ use Rattle.rm_message.specs.declared.elements.header.AckBlock.{AckBlock}
 use Rattle.rm_message.specs.declared.elements.header.AckKind.TheVariants as kind
 use Rattle.rm_message.specs.declared.message.Message.{Message}
 use Rattle.record_batch.specs.Fact.{Fact}
-use Rattle.sequence_table.specs.Words.{Text}
-use Rattle.sequence_table.specs.Idents.{issue}
-use Rattle.sequence_table.specs.Find.{acks_to}
-use Rattle.sequence_table.specs.Fits.{all_fit, is_incoming_side}
-use Rattle.sequence_table.specs.Makers.{maker}
+use Rattle.record_batch.specs.Sequences.Words.{Text}
+use Rattle.record_batch.specs.Sequences.Idents.{issue}
+use Rattle.record_batch.specs.Sequences.Find.{acks_to}
+use Rattle.record_batch.specs.Sequences.Fits.{all_fit, is_incoming_side}
+use Rattle.record_batch.specs.Sequences.Makers.{maker}
 use Rattle.rm_protocol.specs.Calls.{missing_of}
 use Rattle.rm_protocol.specs.Said.{ack_to, own_messages}
 use Rattle.tables_ahead.specs.Known.{all_records}

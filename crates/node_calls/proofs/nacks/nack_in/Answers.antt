@@ -1,7 +1,7 @@
 use Rattle.std.proofs.Common.{◌≡◌, true, sym, ap, subst, ◌∙◌, append-nil}
 use Rattle.std.specs.Prelude.{IfOk}
-use Rattle.sequence_table.specs.Fits.{is_incoming_side}
-use Rattle.sequence_table.specs.Makers.{maker}
+use Rattle.record_batch.specs.Sequences.Fits.{is_incoming_side}
+use Rattle.record_batch.specs.Sequences.Makers.{maker}
 use Rattle.rm_protocol.specs.Calls.{Answer}
 use Rattle.tables_ahead.specs.Known.{KnownRecords, all_records}
 use Rattle.node_laws.specs.Answers.Answers.{seen}

@@ -1,6 +1,6 @@
 use Rattle.std.proofs.Common.{◌≡◌, ◌<◌, [], subst, sym}
 use Rattle.std.specs.Prelude.{IfOk}
-use Rattle.sequence_table.specs.Makers.{number}
+use Rattle.record_batch.specs.Sequences.Makers.{number}
 use Rattle.rm_protocol.specs.Calls.{Answer}
 use Rattle.node_laws.specs.Answers.Answers.{seen}
 use Rattle.tables_ahead.specs.Known.{KnownRecords, all_records}

@@ -1,7 +1,7 @@
 use Rattle.std.proofs.Common.{◌≡◌, ◌+◌, Bool, cond, length, sym, ap, ◌∙◌, subst, arith}
 use Rattle.std.specs.Prelude.{IfOk}
 use Rattle.rm_protocol.specs.Calls.{Answer, TooManySequences, if_room, refusal, wanted}
-use Rattle.sequence_table.specs.Makers.{makers}
+use Rattle.record_batch.specs.Sequences.Makers.{makers}
 use Rattle.node_laws.specs.Answers.Answers.{seen, wish_seen}
 use Rattle.node_calls.specs.Comes.{asked}
 use Rattle.node_calls.proofs.CauseLemmas.{few-enough}

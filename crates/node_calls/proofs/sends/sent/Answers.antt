@@ -1,5 +1,5 @@
 use Rattle.std.proofs.Common.{sym, ap, ◌∙◌, Some}
-use Rattle.sequence_table.specs.Words.{Text}
+use Rattle.record_batch.specs.Sequences.Words.{Text}
 use Rattle.node_calls.proofs.ComesLemmas.{sent-last, with-pushed}
 use Rattle.node_calls.proofs.sends.sent.Goals as goal
 

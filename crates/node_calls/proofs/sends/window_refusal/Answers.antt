@@ -1,7 +1,7 @@
 use Rattle.std.proofs.Common.{◌≡◌, sym, ap, ◌∙◌, arith}
 use Rattle.rm_sides.specs.Source.Outgoing.{Sending, unacked_of}
 use Rattle.rm_protocol.specs.Calls.{is_open}
-use Rattle.sequence_table.specs.Sources.{unacked}
+use Rattle.record_batch.specs.Sequences.Sources.{unacked}
 use Rattle.node_calls.proofs.CauseLemmas.{node-full}
 use Rattle.node_calls.proofs.sends.window_refusal.Goals as goal
 

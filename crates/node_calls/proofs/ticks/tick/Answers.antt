@@ -3,7 +3,7 @@ use Rattle.std.specs.List.{AllByRecursion}
 use Rattle.node_laws.specs.Sizes.Room.{HasRoom}
 use Rattle.node_laws.specs.Sizes.Typed.{IsTyped}
 use Rattle.record_batch.specs.Fact.{Fact, fact_of}
-use Rattle.sequence_table.specs.Makers.{makers}
+use Rattle.record_batch.specs.Sequences.Makers.{makers}
 use Rattle.rm_protocol.specs.Calls.{expired_from, messages_at, ticked}
 use Rattle.tables_ahead.specs.Known.{KnownRecords, all_records}
 use Rattle.node_calls.specs.Comes.{fitting}

@@ -1,7 +1,7 @@
 use Rattle.std.proofs.Common.{◌≡◌, ◌++◌, ◌∙◌, List, ℕ, length, drop, ap, sym, subst, arith}
 use Rattle.rm_base.specs.Text.{IsText}
-use Rattle.sequence_table.specs.IdentTexts.{polled-text}
-use Rattle.sequence_table.specs.Idents.{issue, polled_address, polled_prefix}
+use Rattle.record_batch.specs.Sequences.IdentTexts.{polled-text}
+use Rattle.record_batch.specs.Sequences.Idents.{issue, polled_address, polled_prefix}
 use Rattle.node_messages.proofs.TextLemmas.{polled-is, polled-length}
 use Rattle.node_messages.proofs.home.polled_address.Goals as goal
 

@@ -1,5 +1,5 @@
 use Rattle.std.proofs.Common.{refl, arith}
-use Rattle.sequence_table.specs.IdentTexts.{marks-text}
+use Rattle.record_batch.specs.Sequences.IdentTexts.{marks-text}
 use Rattle.node_messages.proofs.request.make_action.Goals as goal
 
 pub returns-clause-is_text : goal.returns-clause-is_text

@@ -1,6 +1,6 @@
 use Rattle.std.proofs.Common.{◌≡◌, ◌∙◌, ap, inl, inr, refl}
 use Rattle.std.proofs.lemmas.Result.{err_from_is_err_and}
-use Rattle.record_snapshot.specs.Snapshot.{snapshot}
+use Rattle.record_batch.specs.Snapshot.Snapshot.{snapshot}
 use Rattle.node_store.specs.Rewrites.{fresh_entries}
 use Rattle.node_store.specs.Stored.{stored}
 use Rattle.node_store.proofs.RewriteLemmas.{broken_rewrites, done_rewrites, refused_by, still_rewrites}

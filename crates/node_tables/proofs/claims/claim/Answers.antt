@@ -1,6 +1,6 @@
 use Rattle.std.proofs.Common.{◌≡◌, ◌+◌, ◌-◌, ◌<◌, ◌≤◌, length, arith}
 use Rattle.record_batch.specs.Fact.{fact_of}
-use Rattle.sequence_table.specs.Told.{names}
+use Rattle.record_batch.specs.Sequences.Told.{names}
 use Rattle.node_tables.specs.declared.note.Coming.{Coming}
 use Rattle.node_tables.proofs.AheadLemmas.{begun-set, starts-set}
 use Rattle.node_tables.proofs.RoomLemmas.{claimed-back, claimed-front, told-same}

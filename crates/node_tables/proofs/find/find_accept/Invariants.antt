@@ -1,7 +1,7 @@
 use Rattle.std.proofs.Common.{◌≡◌, drop, map, None}
 use Rattle.std.specs.List.{flat_map}
 use Rattle.record_batch.specs.Fact.{fact_of}
-use Rattle.sequence_table.specs.Words.{at_seq, first_or}
+use Rattle.record_batch.specs.Sequences.Words.{at_seq, first_or}
 use Rattle.node_tables.specs.Kept.{accept_at}
 use Rattle.node_tables.proofs.find.find_accept.Given as goal
 

@@ -1,7 +1,7 @@
 use Rattle.std.proofs.Common.{◌≡◌, drop, map}
 use Rattle.std.specs.List.{flat_map}
 use Rattle.record_batch.specs.Fact.{fact_of}
-use Rattle.sequence_table.specs.Makers.{addresses_of}
+use Rattle.record_batch.specs.Sequences.Makers.{addresses_of}
 use Rattle.node_tables.proofs.find.find_address.Given as goal
 
 abbrev pub invariant-loop-known : goal.invariant-loop-known

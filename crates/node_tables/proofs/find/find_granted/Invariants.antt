@@ -1,6 +1,6 @@
 use Rattle.std.proofs.Common.{◌≡◌, drop, map}
 use Rattle.record_batch.specs.Fact.{fact_of}
-use Rattle.sequence_table.specs.Find.{find_from, is_granted}
+use Rattle.record_batch.specs.Sequences.Find.{find_from, is_granted}
 use Rattle.node_tables.specs.Kept.{maker_at}
 use Rattle.node_tables.proofs.find.find_granted.Given as goal
 

@@ -2,7 +2,7 @@ use Rattle.std.proofs.Common.{◌∙◌, ◌+◌, List, drop, map, cond, get_or,
 use Rattle.std.proofs.lemmas.Bool.{eq-eqb}
 use Rattle.std.proofs.lemmas.List.{at_drop_more}
 use Rattle.record_batch.specs.Fact.{fact_of}
-use Rattle.sequence_table.specs.Makers.{ident_in}
+use Rattle.record_batch.specs.Sequences.Makers.{ident_in}
 use Rattle.node_tables.specs.declared.note.Named.{Named}
 use Rattle.node_tables.specs.Kept.{ident_given, kept_at, named_at}
 use Rattle.node_tables.proofs.MakerLemmas.{given-at}

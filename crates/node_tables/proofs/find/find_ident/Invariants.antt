@@ -1,6 +1,6 @@
 use Rattle.std.proofs.Common.{◌≡◌, drop, map}
 use Rattle.record_batch.specs.Fact.{fact_of}
-use Rattle.sequence_table.specs.Makers.{ident_in}
+use Rattle.record_batch.specs.Sequences.Makers.{ident_in}
 use Rattle.node_tables.specs.Kept.{named_at}
 use Rattle.node_tables.proofs.find.find_ident.Given as goal
 

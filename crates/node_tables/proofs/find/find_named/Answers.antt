@@ -1,7 +1,7 @@
 use Rattle.std.proofs.Common.{◌∙◌, ◌+◌, List, drop, map, cond, get_or, sym, ap, Some, Bool}
 use Rattle.std.proofs.lemmas.List.{at_drop_more}
 use Rattle.record_batch.specs.Fact.{fact_of}
-use Rattle.sequence_table.specs.Makers.{seq_in}
+use Rattle.record_batch.specs.Sequences.Makers.{seq_in}
 use Rattle.node_tables.specs.declared.note.Named.{Named}
 use Rattle.node_tables.specs.Kept.{named_at}
 use Rattle.node_tables.proofs.find.find_named.Goals as goal

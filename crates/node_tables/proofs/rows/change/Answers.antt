@@ -1,7 +1,7 @@
 use Rattle.std.proofs.Common.{◌≡◌, ap, ◌∙◌, ◌+◌, ◌-◌, ◌<◌, ◌≤◌, length, sym, subst, arith, true, ℕ}
 use Rattle.record_batch.specs.Fact.{fact_of}
 use Rattle.node_tables.specs.Row.Row.{is_sender, takes}
-use Rattle.sequence_table.specs.Told.{Told, names}
+use Rattle.record_batch.specs.Sequences.Told.{Told, names}
 use Rattle.node_tables.specs.Kept.{row_at, tolds}
 use Rattle.node_tables.proofs.RoomLemmas.{same-spare, spares-same, step-kind}
 use Rattle.node_tables.proofs.StepLemmas.{each_after-none, rows-step}

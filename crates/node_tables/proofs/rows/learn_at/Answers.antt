@@ -1,6 +1,6 @@
 use Rattle.std.proofs.Common.{◌≡◌, ap, ◌∙◌, ◌+◌, refl, arith, subst, true}
 use Rattle.record_batch.specs.Fact.{Acked}
-use Rattle.sequence_table.specs.Told.{Told}
+use Rattle.record_batch.specs.Sequences.Told.{Told}
 use Rattle.node_tables.specs.Row.Row.{takes_acked}
 use Rattle.node_tables.specs.Kept.{row_at, tolds}
 use Rattle.node_tables.specs.Row.Row.{is_sender}

@@ -2,7 +2,7 @@ use Rattle.std.proofs.Common.{◌≡◌, ap, ◌∙◌, arith, subst, true}
 use Rattle.std.proofs.lemmas.Result.{err_from_is_err_and}
 use Rattle.record_batch.specs.Fact.{fact_of}
 use Rattle.node_tables.specs.Row.Row.{is_sender, takes}
-use Rattle.sequence_table.specs.Told.{Told}
+use Rattle.record_batch.specs.Sequences.Told.{Told}
 use Rattle.node_tables.proofs.RoomLemmas.{same-spare, spares-same, step-kind, told-same}
 use Rattle.node_tables.proofs.StepLemmas.{row-at, rows-step}
 use Rattle.node_tables.proofs.rows.pass_at.Goals as goal

@@ -2,7 +2,7 @@ use Rattle.std.proofs.Common.{◌≡◌, ◌∙◌, [], ap, subst, sym, arith}
 use Rattle.std.specs.List.{AllByRecursion}
 use Rattle.std.proofs.lemmas.Result.{IfOk-weaker}
 use Rattle.rm_sides.specs.Ranges.Changes.{united}
-use Rattle.record_snapshot.specs.Snapshot.{past_front}
+use Rattle.record_batch.specs.Snapshot.Snapshot.{past_front}
 use Rattle.node_tables.specs.Shorter.{IsRange}
 use Rattle.node_tables.proofs.PastLemmas.{canonical-past, ranges-each}
 use Rattle.node_tables.proofs.snapshot.behind_of.Goals as goal

@@ -1,7 +1,7 @@
 use Rattle.std.proofs.Common.{◌≡◌, true, List, refl, sym, subst}
 use Rattle.std.specs.Prelude.{IfOk}
 use Rattle.record_batch.specs.Fact.{Fact}
-use Rattle.sequence_table.specs.Fits.{all_fit}
+use Rattle.record_batch.specs.Sequences.Fits.{all_fit}
 use Rattle.rm_protocol.specs.Calls.{Answer}
 use Rattle.node_laws.specs.Answers.Answers.{seen}
 use Rattle.receive_answer.proofs.FitLemmas.{nothing-stored}

@@ -1,8 +1,8 @@
 use Rattle.std.proofs.Common.{◌≡◌, ◌<◌, ◌^◌, ◌++◌, true, List, sym, subst, ap, ◌∙◌}
 use Rattle.std.specs.Prelude.{IfOk}
 use Rattle.record_batch.specs.Fact.{Fact}
-use Rattle.sequence_table.specs.Fits.{all_fit}
-use Rattle.sequence_table.specs.Makers.{counter, number}
+use Rattle.record_batch.specs.Sequences.Fits.{all_fit}
+use Rattle.record_batch.specs.Sequences.Makers.{counter, number}
 use Rattle.rm_protocol.specs.Calls.{Answer}
 use Rattle.node_laws.specs.Answers.Answers.{MayBeStored, seen}
 use Rattle.receive_answer.specs.Untold.{done_of, full_of}

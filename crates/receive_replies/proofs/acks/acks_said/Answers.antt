@@ -1,5 +1,5 @@
 use Rattle.std.proofs.Common.{◌≡◌, ◌++◌, [], List, ap, ◌∙◌}
-use Rattle.sequence_table.specs.Words.{Text}
+use Rattle.record_batch.specs.Sequences.Words.{Text}
 use Rattle.rm_protocol.specs.Said.{Ack, ask_acks, data_acks, data_ident, found_in, given_with}
 use Rattle.receive_replies.proofs.GivenLemmas.{ask_acks-same}
 use Rattle.receive_replies.proofs.acks.acks_said.Goals as goal

@@ -1,6 +1,6 @@
 use Rattle.std.proofs.Common.{◌≡◌, ◌++◌, ◌∷◌, [], Some, rules, ap, ◌∙◌}
 use Rattle.rm_base.specs.NumberSet.{has_number}
-use Rattle.sequence_table.specs.Find.{find_incoming}
+use Rattle.record_batch.specs.Sequences.Find.{find_incoming}
 use Rattle.rm_protocol.specs.Said.{given_with}
 use Rattle.receive_replies.proofs.GivenLemmas.{given-push}
 use Rattle.receive_replies.proofs.acks.ask_ack.Goals as goal

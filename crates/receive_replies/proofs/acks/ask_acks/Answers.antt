@@ -1,7 +1,7 @@
 use Rattle.std.proofs.Common.{◌≡◌, ◌+◌, ◌<◌, ◌++◌, ◌∷◌, drop, length, rules, sym, ap, ◌∙◌, append_assoc}
 use Rattle.std.proofs.lemmas.List.{at_drop_more}
-use Rattle.sequence_table.specs.Words.{Text}
-use Rattle.sequence_table.specs.Find.{find_incoming}
+use Rattle.record_batch.specs.Sequences.Words.{Text}
+use Rattle.record_batch.specs.Sequences.Find.{find_incoming}
 use Rattle.rm_protocol.specs.Said.{ask_ack, ask_acks, given_with}
 use Rattle.receive_replies.proofs.GivenLemmas.{ask_acks-same}
 use Rattle.receive_replies.proofs.acks.ask_acks.Goals as goal

@@ -3,9 +3,9 @@ use Rattle.std.proofs.lemmas.Result.{IfOk-weaker}
 use Rattle.rm_message.specs.declared.elements.lifecycle.Lifecycle.TheVariants as life
 use Rattle.rm_message.specs.declared.message.Message.{Message}
 use Rattle.wsa_headers.specs.declared.endpoint.Epr.{Epr}
-use Rattle.sequence_table.specs.Find.{is_taken}
-use Rattle.sequence_table.specs.Idents.{issue}
-use Rattle.sequence_table.specs.Makers.{Maker, counter, maker, number}
+use Rattle.record_batch.specs.Sequences.Find.{is_taken}
+use Rattle.record_batch.specs.Sequences.Idents.{issue}
+use Rattle.record_batch.specs.Sequences.Makers.{Maker, counter, maker, number}
 use Rattle.rm_protocol.specs.Addresses.{reply_endpoint}
 use Rattle.rm_protocol.specs.Messages.{response_of}
 use Rattle.rm_protocol.specs.Said.{accept_by, grant_response}

@@ -5,7 +5,7 @@ use Rattle.std.proofs.lemmas.Result.{err_from_is_err_and}
 use Rattle.node_tables.specs.Reads.{incoming_in}
 use Rattle.record_batch.specs.Fact.{Fact}
 use Rattle.rm_base.specs.Outside.{AppendsFront}
-use Rattle.sequence_table.specs.Destinations.{cursor}
+use Rattle.record_batch.specs.Sequences.Destinations.{cursor}
 use Rattle.rm_host.specs.Consumption.{Consumption}
 use Rattle.rm_host.specs.Ends.{HasReason, Prints, faults_of, is_of_input}
 use Rattle.rm_host.specs.Sequences.{passed_answer}

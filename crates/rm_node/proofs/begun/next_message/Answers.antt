@@ -1,7 +1,7 @@
 use Rattle.std.proofs.Common.{◌+◌, ap, sym}
 use Rattle.std.specs.Prelude.{is_some}
-use Rattle.sequence_table.specs.Makers.{maker}
-use Rattle.sequence_table.specs.Sources.{accepted_count}
+use Rattle.record_batch.specs.Sequences.Makers.{maker}
+use Rattle.record_batch.specs.Sequences.Sources.{accepted_count}
 use Rattle.rm_protocol.specs.Waiting.{key}
 use Rattle.rm_node.proofs.BegunLemmas.{outgoing-none, outgoing-some}
 use Rattle.rm_node.proofs.begun.next_message.Goals as goal

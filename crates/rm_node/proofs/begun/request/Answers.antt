@@ -1,6 +1,6 @@
 use Rattle.std.proofs.Common.{ap, sym}
 use Rattle.std.specs.Prelude.{is_some}
-use Rattle.sequence_table.specs.Makers.{maker}
+use Rattle.record_batch.specs.Sequences.Makers.{maker}
 use Rattle.rm_protocol.specs.Waiting.{key}
 use Rattle.rm_node.proofs.BegunLemmas.{outgoing-none, outgoing-some}
 use Rattle.rm_node.proofs.begun.request.Goals as goal

@@ -1,6 +1,6 @@
 use Rattle.std.proofs.Common.{refl}
 use Rattle.uuid.specs.Text.{by_index}
-use Rattle.sequence_table.specs.Idents.{issue, polled_prefix}
+use Rattle.record_batch.specs.Sequences.Idents.{issue, polled_prefix}
 use Rattle.rm_protocol.specs.Addresses.{anonymous, no_address}
 use Rattle.rm_protocol.proofs.laws.a_list_is_written_anew.Goals as goal
 

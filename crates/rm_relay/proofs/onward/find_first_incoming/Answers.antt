@@ -1,7 +1,7 @@
 use Rattle.std.proofs.Common.{◌∙◌, ◌+◌, ◌<◌, drop, cond, length, sym, ap, arith, Some, Bool}
-use Rattle.sequence_table.specs.Find.{find_from}
-use Rattle.sequence_table.specs.Fits.{is_incoming_side}
-use Rattle.sequence_table.specs.Makers.{makers}
+use Rattle.record_batch.specs.Sequences.Find.{find_from}
+use Rattle.record_batch.specs.Sequences.Fits.{is_incoming_side}
+use Rattle.record_batch.specs.Sequences.Makers.{makers}
 use Rattle.rm_relay.specs.Word.FirstLemmas.{find-step, tested}
 use Rattle.rm_relay.proofs.onward.find_first_incoming.Goals as goal
 

@@ -1,7 +1,7 @@
 use Rattle.std.proofs.Common.{◌≡◌, drop}
-use Rattle.sequence_table.specs.Find.{find_from}
-use Rattle.sequence_table.specs.Fits.{is_outgoing_side}
-use Rattle.sequence_table.specs.Makers.{makers}
+use Rattle.record_batch.specs.Sequences.Find.{find_from}
+use Rattle.record_batch.specs.Sequences.Fits.{is_outgoing_side}
+use Rattle.record_batch.specs.Sequences.Makers.{makers}
 use Rattle.rm_relay.specs.Word.Ends.{first_outgoing}
 use Rattle.rm_relay.specs.Word.FirstLemmas.{tested}
 use Rattle.rm_relay.proofs.onward.find_first_outgoing.Given as goal

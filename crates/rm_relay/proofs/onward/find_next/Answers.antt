@@ -1,4 +1,4 @@
-use Rattle.sequence_table.specs.Fits.{is_incoming_side, is_outgoing_side}
+use Rattle.record_batch.specs.Sequences.Fits.{is_incoming_side, is_outgoing_side}
 use Rattle.rm_relay.specs.Word.FirstLemmas.{found-side}
 use Rattle.rm_relay.proofs.onward.find_next.Goals as goal
 

@@ -1,6 +1,6 @@
 use Rattle.std.proofs.Common.{◌≡◌, ◌≤◌, ◌+◌, drop, length, map}
 use Rattle.record_batch.specs.Fact.{fact_of}
-use Rattle.sequence_table.specs.Sources.{accepted}
+use Rattle.record_batch.specs.Sequences.Sources.{accepted}
 use Rattle.tables_ahead.proofs.batch.accepted_in.Given as goal
 
 abbrev pub invariant-loop-given : goal.invariant-loop-given

@@ -2,7 +2,7 @@ use Rattle.std.proofs.Common.{List, arith, map}
 use Rattle.std.proofs.lemmas.List.{at_drop_all}
 use Rattle.record_batch.specs.declared.record.Record.{Record}
 use Rattle.record_batch.specs.Fact.{fact_of}
-use Rattle.sequence_table.specs.Makers.{counter}
+use Rattle.record_batch.specs.Sequences.Makers.{counter}
 use Rattle.tables_ahead.proofs.batch.drawn_in.Goals as goal
 
 pub returns : goal.returns

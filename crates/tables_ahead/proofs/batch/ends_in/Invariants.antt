@@ -1,6 +1,6 @@
 use Rattle.std.proofs.Common.{◌≡◌, drop, map}
 use Rattle.record_batch.specs.Fact.{fact_of}
-use Rattle.sequence_table.specs.Destinations.{has_end}
+use Rattle.record_batch.specs.Sequences.Destinations.{has_end}
 use Rattle.tables_ahead.proofs.batch.ends_in.Given as goal
 
 abbrev pub invariant-loop-given : goal.invariant-loop-given

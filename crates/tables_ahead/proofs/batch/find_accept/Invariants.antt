@@ -1,8 +1,8 @@
 use Rattle.std.proofs.Common.{◌≡◌, drop, map}
 use Rattle.std.specs.List.{flat_map}
 use Rattle.record_batch.specs.Fact.{fact_of}
-use Rattle.sequence_table.specs.Find.{accept_of}
-use Rattle.sequence_table.specs.Words.{at_seq}
+use Rattle.record_batch.specs.Sequences.Find.{accept_of}
+use Rattle.record_batch.specs.Sequences.Words.{at_seq}
 use Rattle.tables_ahead.proofs.batch.find_accept.Given as goal
 
 abbrev pub invariant-loop-given : goal.invariant-loop-given

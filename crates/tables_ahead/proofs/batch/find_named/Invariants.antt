@@ -1,6 +1,6 @@
 use Rattle.std.proofs.Common.{◌≡◌, ◌+◌, drop, length, map}
 use Rattle.record_batch.specs.Fact.{fact_of}
-use Rattle.sequence_table.specs.Makers.{created_from, makers, seq_in}
+use Rattle.record_batch.specs.Sequences.Makers.{created_from, makers, seq_in}
 use Rattle.tables_ahead.proofs.batch.find_named.Given as goal
 
 abbrev pub invariant-loop-given : goal.invariant-loop-given

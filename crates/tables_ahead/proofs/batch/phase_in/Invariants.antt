@@ -1,7 +1,7 @@
 use Rattle.std.proofs.Common.{◌≡◌, drop, map}
 use Rattle.record_batch.specs.Fact.{fact_of}
-use Rattle.sequence_table.specs.Sources.{marks}
-use Rattle.sequence_table.specs.Words.{last_or}
+use Rattle.record_batch.specs.Sequences.Sources.{marks}
+use Rattle.record_batch.specs.Sequences.Words.{last_or}
 use Rattle.tables_ahead.proofs.batch.phase_in.Given as goal
 
 abbrev pub invariant-loop-given : goal.invariant-loop-given

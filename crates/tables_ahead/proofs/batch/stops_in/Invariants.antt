@@ -1,6 +1,6 @@
 use Rattle.std.proofs.Common.{◌≡◌, drop, map}
 use Rattle.record_batch.specs.Fact.{fact_of}
-use Rattle.sequence_table.specs.Destinations.{is_stopped}
+use Rattle.record_batch.specs.Sequences.Destinations.{is_stopped}
 use Rattle.tables_ahead.proofs.batch.stops_in.Given as goal
 
 abbrev pub invariant-loop-given : goal.invariant-loop-given

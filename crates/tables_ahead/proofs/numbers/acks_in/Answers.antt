@@ -1,7 +1,7 @@
 use Rattle.std.proofs.Common.{◌+◌, ◌++◌, List, drop, map, sym, ap, ◌∙◌}
 use Rattle.record_batch.specs.declared.record.Record.{Record}
 use Rattle.record_batch.specs.Fact.{fact_of}
-use Rattle.sequence_table.specs.Sources.{acked}
+use Rattle.record_batch.specs.Sequences.Sources.{acked}
 use Rattle.tables_ahead.specs.Known.{ranges_in}
 use Rattle.tables_ahead.proofs.LoopLemmas.{at_item, live_item}
 use Rattle.tables_ahead.proofs.numbers.acks_in.Goals as goal

@@ -1,7 +1,7 @@
 use Rattle.std.proofs.Common.{◌≡◌, drop, map}
 use Rattle.record_batch.specs.Fact.{fact_of}
 use Rattle.rm_sides.specs.Destination.Messages.{numbers_of, ranges_onto}
-use Rattle.sequence_table.specs.Destinations.{received}
+use Rattle.record_batch.specs.Sequences.Destinations.{received}
 use Rattle.tables_ahead.specs.Known.{AreNumbers}
 use Rattle.tables_ahead.proofs.numbers.insert_received.Given as goal
 

@@ -2,8 +2,8 @@ use Rattle.std.proofs.Common.{◌+◌, List, drop, map, sym, ap, ◌∙◌}
 use Rattle.rm_sides.specs.Ranges.Changes.{united}
 use Rattle.record_batch.specs.declared.record.Record.{Record}
 use Rattle.record_batch.specs.Fact.{fact_of}
-use Rattle.sequence_table.specs.GatherLemmas.{united-append}
-use Rattle.sequence_table.specs.Sources.{acked, acked_of}
+use Rattle.record_batch.specs.Sequences.GatherLemmas.{united-append}
+use Rattle.record_batch.specs.Sequences.Sources.{acked, acked_of}
 use Rattle.tables_ahead.proofs.LoopLemmas.{at_item, live_item}
 use Rattle.tables_ahead.proofs.numbers.unite_acked.Goals as goal
 

@@ -2,7 +2,7 @@ use Rattle.std.proofs.Common.{◌≡◌, drop, map, true}
 use Rattle.std.specs.List.{list_all}
 use Rattle.rm_sides.specs.Ranges.Changes.{united}
 use Rattle.record_batch.specs.Fact.{fact_of}
-use Rattle.sequence_table.specs.Sources.{acked}
+use Rattle.record_batch.specs.Sequences.Sources.{acked}
 use Rattle.node_tables.specs.Room.{has_room}
 use Rattle.tables_ahead.proofs.numbers.unite_acked.Given as goal
 

@@ -2,7 +2,7 @@ use Rattle.std.proofs.Common.{◌≡◌, ◌∙◌, ◌+◌, ◌-◌, ◌<◌, t
 use Rattle.std.proofs.Common.{subst, arith}
 use Rattle.std.proofs.lemmas.List.{length-map}
 use Rattle.record_batch.specs.Fact.{Accepted}
-use Rattle.sequence_table.specs.Fits.{fits}
+use Rattle.record_batch.specs.Sequences.Fits.{fits}
 use Rattle.node_tables.specs.Row.Row.{Seen}
 use Rattle.node_tables.specs.declared.note.Note.{Note}
 use Rattle.node_tables.specs.declared.note.Note.TheVariants as note

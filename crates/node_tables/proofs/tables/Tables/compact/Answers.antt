@@ -1,6 +1,6 @@
 use Rattle.std.proofs.Common.{◌≡◌, ◌∙◌, true, map, ap, subst, arith}
 use Rattle.record_batch.specs.Fact.{fact_of}
-use Rattle.record_snapshot.specs.Snapshot.{snapshot}
+use Rattle.record_batch.specs.Snapshot.Snapshot.{snapshot}
 use Rattle.node_tables.specs.Kept.{IsMarked, Table, Tabled, all_forgotten, records_of, table_in}
 use Rattle.node_tables.proofs.CompactLemmas.{compacted, records-left, renoted}
 use Rattle.node_tables.proofs.tables.Tables.compact.Goals as goal

@@ -1,6 +1,6 @@
 use Rattle.std.proofs.Common.{◌∙◌, ◌+◌, ◌<◌, drop, cond, length, sym, ap, arith, Some, Bool}
-use Rattle.sequence_table.specs.Find.{find_from, is_creating}
-use Rattle.sequence_table.specs.Makers.{makers}
+use Rattle.record_batch.specs.Sequences.Find.{find_from, is_creating}
+use Rattle.record_batch.specs.Sequences.Makers.{makers}
 use Rattle.node_tables.proofs.MakerLemmas.{find-step}
 use Rattle.node_tables.proofs.tables.Tables.find_creating.Goals as goal
 

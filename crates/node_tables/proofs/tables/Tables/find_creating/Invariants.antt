@@ -1,6 +1,6 @@
 use Rattle.std.proofs.Common.{◌≡◌, drop}
-use Rattle.sequence_table.specs.Find.{find_creating, find_from, is_creating}
-use Rattle.sequence_table.specs.Makers.{makers}
+use Rattle.record_batch.specs.Sequences.Find.{find_creating, find_from, is_creating}
+use Rattle.record_batch.specs.Sequences.Makers.{makers}
 use Rattle.node_tables.proofs.tables.Tables.find_creating.Given as goal
 
 abbrev pub invariant-loop-before : goal.invariant-loop-before

@@ -1,6 +1,6 @@
 use Rattle.std.proofs.Common.{◌∙◌, ◌+◌, ◌<◌, drop, cond, length, sym, ap, arith, Some, Bool}
-use Rattle.sequence_table.specs.Find.{find_from, is_incoming}
-use Rattle.sequence_table.specs.Makers.{makers, number}
+use Rattle.record_batch.specs.Sequences.Find.{find_from, is_incoming}
+use Rattle.record_batch.specs.Sequences.Makers.{makers, number}
 use Rattle.node_tables.proofs.MakerLemmas.{find-step}
 use Rattle.node_tables.proofs.tables.Tables.find_incoming.Goals as goal
 

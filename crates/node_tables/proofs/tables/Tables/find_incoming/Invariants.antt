@@ -1,6 +1,6 @@
 use Rattle.std.proofs.Common.{◌≡◌, drop}
-use Rattle.sequence_table.specs.Find.{find_incoming, find_from, is_incoming}
-use Rattle.sequence_table.specs.Makers.{makers, number}
+use Rattle.record_batch.specs.Sequences.Find.{find_incoming, find_from, is_incoming}
+use Rattle.record_batch.specs.Sequences.Makers.{makers, number}
 use Rattle.node_tables.proofs.tables.Tables.find_incoming.Given as goal
 
 abbrev pub invariant-loop-before : goal.invariant-loop-before

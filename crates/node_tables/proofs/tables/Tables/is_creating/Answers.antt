@@ -1,9 +1,9 @@
 use Rattle.std.proofs.Common.{◌≡◌, ◌∙◌, true, ap, sym}
 use Rattle.std.specs.Prelude.{◌&&◌}
-use Rattle.sequence_table.specs.Find.{is_creating}
-use Rattle.sequence_table.specs.Fits.{is_outgoing_side}
-use Rattle.sequence_table.specs.Makers.{number}
-use Rattle.sequence_table.specs.Sources.{phase}
+use Rattle.record_batch.specs.Sequences.Find.{is_creating}
+use Rattle.record_batch.specs.Sequences.Fits.{is_outgoing_side}
+use Rattle.record_batch.specs.Sequences.Makers.{number}
+use Rattle.record_batch.specs.Sequences.Sources.{phase}
 use Rattle.node_tables.specs.AskingLemmas.{creating-by}
 use Rattle.node_tables.specs.Reads.{is_asked, is_asking, maker_seen, passes}
 use Rattle.node_tables.proofs.tables.Tables.is_creating.Goals as goal

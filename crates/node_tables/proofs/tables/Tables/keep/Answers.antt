@@ -4,9 +4,9 @@ use Rattle.std.proofs.lemmas.List.{length-map, map-append}
 use Rattle.std.proofs.lemmas.Result.{err_from_is_err_and}
 use Rattle.record_batch.specs.declared.record.Record.{Record}
 use Rattle.record_batch.specs.Fact.{fact_of}
-use Rattle.sequence_table.specs.Makers.{makers_of}
-use Rattle.sequence_table.specs.Fits.{fits}
-use Rattle.sequence_table.specs.Told.{Told, begun, each_after, names}
+use Rattle.record_batch.specs.Sequences.Makers.{makers_of}
+use Rattle.record_batch.specs.Sequences.Fits.{fits}
+use Rattle.record_batch.specs.Sequences.Told.{Told, begun, each_after, names}
 use Rattle.node_tables.specs.Row.Row.{Seen, takes}
 use Rattle.node_tables.specs.declared.note.Note.{Note}
 use Rattle.node_tables.specs.declared.note.Note.TheVariants as note

@@ -1,7 +1,7 @@
 use Rattle.std.proofs.Common.{◌∙◌, length, sym, ap, arith}
 use Rattle.std.proofs.lemmas.List.{length-map}
 use Rattle.node_tables.specs.Row.Row.{Seen}
-use Rattle.sequence_table.specs.Makers.{makers}
+use Rattle.record_batch.specs.Sequences.Makers.{makers}
 use Rattle.node_tables.specs.Kept.{Tabled}
 use Rattle.node_tables.proofs.CountLemmas.{rows-few}
 use Rattle.node_tables.proofs.RowsLemmas.{rows-count}

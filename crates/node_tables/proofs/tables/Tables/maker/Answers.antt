@@ -3,7 +3,7 @@ use Rattle.std.specs.Prelude.{slice_get}
 use Rattle.rm_base.specs.Numbered.{numbered}
 use Rattle.record_batch.specs.declared.record.Record.{Record}
 use Rattle.record_batch.specs.Fact.{fact_of}
-use Rattle.sequence_table.specs.Makers.{maker, makers_of}
+use Rattle.record_batch.specs.Sequences.Makers.{maker, makers_of}
 use Rattle.node_tables.specs.declared.note.Origin.{Origin}
 use Rattle.node_tables.specs.Kept.{Tabled, kept_at}
 use Rattle.node_tables.proofs.MakerLemmas.{maker-some}

@@ -5,8 +5,8 @@ use Rattle.std.proofs.lemmas.Bool.{false≢true}
 use Rattle.std.proofs.lemmas.List.{length-map}
 use Rattle.std.proofs.lemmas.Result.{err_from_is_err_and}
 use Rattle.record_batch.specs.Fact.{fact_of}
-use Rattle.sequence_table.specs.Fits.{fits}
-use Rattle.sequence_table.specs.Told.{Told, names}
+use Rattle.record_batch.specs.Sequences.Fits.{fits}
+use Rattle.record_batch.specs.Sequences.Told.{Told, names}
 use Rattle.node_tables.specs.Row.Row.{Seen, takes}
 use Rattle.node_tables.specs.declared.note.Note.{Note}
 use Rattle.node_tables.specs.Kept.{Tabled, records_of, row_at, tolds}

@@ -4,7 +4,7 @@ use Rattle.std.proofs.Math.Nat.{min-eq_left}
 use Rattle.std.proofs.lemmas.List.{length-map}
 use Rattle.record_batch.specs.Fact.{fact_of}
 use Rattle.node_tables.specs.Row.Row.{Seen}
-use Rattle.sequence_table.specs.Sources.{all_unacked}
+use Rattle.record_batch.specs.Sequences.Sources.{all_unacked}
 use Rattle.node_tables.specs.Kept.{Tabled, fact_at, tolds}
 use Rattle.node_tables.specs.Reads.{waiting}
 use Rattle.node_tables.proofs.WaitLemmas.{waits, waits-few}

@@ -1,7 +1,7 @@
 use Rattle.std.proofs.Common.{◌≡◌, ◌+◌, ◌≤◌, ◌<◌, ℕ, List, length, ap, subst, arith, filter, drop}
 use Rattle.timers.specs.declared.keys.cells.Cell.{Cell}
 use Rattle.timers.specs.Keys.Keyed.{keys_in}
-use Rattle.sequence_table.specs.Makers.{maker, makers}
+use Rattle.record_batch.specs.Sequences.Makers.{maker, makers}
 use Rattle.rm_protocol.specs.Waiting.{key, is_waiting, keys_from, waiting_keys}
 use Rattle.node_waits.specs.Keys.Filled.{Filled, own_waiting}
 use Rattle.node_waits.specs.Keys.Settled.{count_of}

@@ -1,7 +1,7 @@
 use Rattle.std.proofs.Common.{◌+◌, drop, filter}
 use Rattle.timers.specs.Keys.Keyed.{keys_in}
 use Rattle.rm_protocol.specs.Waiting.{key, is_waiting, keys_from, waiting_keys}
-use Rattle.sequence_table.specs.Makers.{makers}
+use Rattle.record_batch.specs.Sequences.Makers.{makers}
 use Rattle.node_waits.specs.Keys.Filled.{AllBefore}
 use Rattle.node_waits.proofs.KeysLemmas.FillLemmas.{Part}
 use Rattle.node_waits.proofs.keys.mounts.fill.Given as goal

@@ -1,5 +1,5 @@
 use Rattle.std.proofs.Common.{◌++◌, ◌≤◌, length, arith}
-use Rattle.sequence_table.specs.Makers.{makers}
+use Rattle.record_batch.specs.Sequences.Makers.{makers}
 use Rattle.receive_answer.proofs.RecordsLemmas.OfferLemmas.{drop_at-last}
 use Rattle.receive_answer.proofs.records.offers.drop_offer.Goals as goal
 use Rattle.tables_ahead.specs.Known.{all_records}

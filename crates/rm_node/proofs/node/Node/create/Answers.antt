@@ -1,7 +1,7 @@
 use Rattle.std.proofs.Common.{List, length, ap, refl, arith}
 use Rattle.std.proofs.lemmas.Result.{err_from_is_err_and}
 use Rattle.record_batch.specs.Fact.{Fact}
-use Rattle.sequence_table.specs.Makers.{makers}
+use Rattle.record_batch.specs.Sequences.Makers.{makers}
 use Rattle.node_laws.specs.Answers.Answers.{wish_seen}
 use Rattle.rm_disk.specs.Journal.JournalState.{end_of}
 use Rattle.rm_node.specs.Asked.{Create}

@@ -1,9 +1,9 @@
 use Rattle.std.proofs.Common.{◌≡◌, ◌+◌, List, true, ap, refl, subst, sym, ◌∙◌}
 use Rattle.std.proofs.lemmas.Result.{err_from_is_err_and}
 use Rattle.record_batch.specs.Fact.{Fact}
-use Rattle.sequence_table.specs.Fits.{is_outgoing_side}
-use Rattle.sequence_table.specs.Makers.{maker}
-use Rattle.sequence_table.specs.Sources.{accepted_count}
+use Rattle.record_batch.specs.Sequences.Fits.{is_outgoing_side}
+use Rattle.record_batch.specs.Sequences.Makers.{maker}
+use Rattle.record_batch.specs.Sequences.Sources.{accepted_count}
 use Rattle.rm_disk.specs.Journal.JournalState.{end_of}
 use Rattle.rm_node.specs.Asked.{Send}
 use Rattle.rm_node.specs.Ends.{sent_end}

@@ -3,9 +3,9 @@ use Rattle.std.specs.List.{flat_map}
 use Rattle.std.specs.Prelude.{slice_get}
 use Rattle.record_batch.specs.declared.record.Record.{Record}
 use Rattle.record_batch.specs.Fact.{fact_of}
-use Rattle.sequence_table.specs.Find.{accept_of, accepted_by}
-use Rattle.sequence_table.specs.Fits.{all_fit}
-use Rattle.sequence_table.specs.Words.{at_seq, first_or}
+use Rattle.record_batch.specs.Sequences.Find.{accept_of, accepted_by}
+use Rattle.record_batch.specs.Sequences.Fits.{all_fit}
+use Rattle.record_batch.specs.Sequences.Words.{at_seq, first_or}
 use Rattle.tables_ahead.specs.Known.{all_records, KnownRecords}
 use Rattle.tables_ahead.proofs.SideLemmas.{accept-both}
 use Rattle.tables_ahead.proofs.known.Known.accepted_by.Goals as goal

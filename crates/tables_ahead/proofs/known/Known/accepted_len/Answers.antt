@@ -1,7 +1,7 @@
 use Rattle.std.proofs.Common.{◌+◌, ◌++◌, List, length, map, sym, ap, ◌∙◌}
 use Rattle.record_batch.specs.declared.record.Record.{Record}
 use Rattle.record_batch.specs.Fact.{fact_of}
-use Rattle.sequence_table.specs.Sources.{accepted, accepted_count}
+use Rattle.record_batch.specs.Sequences.Sources.{accepted, accepted_count}
 use Rattle.tables_ahead.specs.Known.{all_records, KnownRecords}
 use Rattle.tables_ahead.proofs.GatheredLemmas.{accepted-both}
 use Rattle.tables_ahead.proofs.known.Known.accepted_len.Goals as goal

@@ -2,7 +2,7 @@ use Rattle.std.proofs.Common.{[], ◌++◌, List, map, sym, ap, ◌∙◌}
 use Rattle.rm_sides.specs.Ranges.Changes.{united}
 use Rattle.record_batch.specs.declared.record.Record.{Record}
 use Rattle.record_batch.specs.Fact.{fact_of}
-use Rattle.sequence_table.specs.Sources.{acked}
+use Rattle.record_batch.specs.Sequences.Sources.{acked}
 use Rattle.tables_ahead.specs.Known.{all_records, KnownRecords}
 use Rattle.tables_ahead.proofs.GatheredLemmas.{acked-both}
 use Rattle.tables_ahead.proofs.known.Known.acked.Goals as goal

@@ -1,6 +1,6 @@
 use Rattle.std.proofs.Common.{◌≡◌, ◌++◌, drop}
-use Rattle.sequence_table.specs.Find.{find_creating, find_from, is_creating}
-use Rattle.sequence_table.specs.Makers.{makers}
+use Rattle.record_batch.specs.Sequences.Find.{find_creating, find_from, is_creating}
+use Rattle.record_batch.specs.Sequences.Makers.{makers}
 use Rattle.tables_ahead.proofs.known.Known.find_creating.Given as goal
 use Rattle.tables_ahead.specs.Known.{all_records}
 

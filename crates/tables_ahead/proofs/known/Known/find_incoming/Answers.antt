@@ -1,8 +1,8 @@
 use Rattle.std.proofs.Common.{◌∙◌, ◌++◌, length, map, sym, ap}
 use Rattle.std.specs.Option.{option_or}
 use Rattle.record_batch.specs.Fact.{fact_of}
-use Rattle.sequence_table.specs.Find.{find_from, find_incoming, is_incoming}
-use Rattle.sequence_table.specs.Makers.{makers, number}
+use Rattle.record_batch.specs.Sequences.Find.{find_from, find_incoming, is_incoming}
+use Rattle.record_batch.specs.Sequences.Makers.{makers, number}
 use Rattle.tables_ahead.proofs.FoundLemmas.{incoming-ahead}
 use Rattle.tables_ahead.proofs.known.Known.find_incoming.Goals as goal
 use Rattle.tables_ahead.specs.Known.{all_records, find_ahead, KnownRecords}

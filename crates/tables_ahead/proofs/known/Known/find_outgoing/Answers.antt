@@ -2,8 +2,8 @@ use Rattle.std.proofs.Common.{◌++◌, List, length, map, sym, ap, ◌∙◌}
 use Rattle.std.specs.Option.{option_or}
 use Rattle.record_batch.specs.declared.record.Record.{Record}
 use Rattle.record_batch.specs.Fact.{fact_of}
-use Rattle.sequence_table.specs.Find.{find_outgoing}
-use Rattle.sequence_table.specs.Makers.{created_from, makers, seq_in}
+use Rattle.record_batch.specs.Sequences.Find.{find_outgoing}
+use Rattle.record_batch.specs.Sequences.Makers.{created_from, makers, seq_in}
 use Rattle.tables_ahead.specs.Known.{all_records, KnownRecords}
 use Rattle.tables_ahead.proofs.GatheredLemmas.{outgoing-both}
 use Rattle.tables_ahead.proofs.known.Known.find_outgoing.Goals as goal

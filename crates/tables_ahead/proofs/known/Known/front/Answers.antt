@@ -1,7 +1,7 @@
 use Rattle.std.proofs.Common.{◌≡◌, true, [], length, sym, ap, subst, ◌∙◌}
 use Rattle.std.specs.List.{list_all}
 use Rattle.node_tables.specs.Room.{has_room}
-use Rattle.sequence_table.specs.Destinations.{front}
+use Rattle.record_batch.specs.Sequences.Destinations.{front}
 use Rattle.rm_sides.specs.Destination.Messages.{sorted_onto, without_gap}
 use Rattle.tables_ahead.specs.Known.{KnownRecords}
 use Rattle.tables_ahead.proofs.GatheredLemmas.{items-first}

@@ -1,6 +1,6 @@
 use Rattle.std.proofs.Common.{◌≡◌, ◌++◌, drop}
-use Rattle.sequence_table.specs.Find.{find_from, is_granted}
-use Rattle.sequence_table.specs.Makers.{makers}
+use Rattle.record_batch.specs.Sequences.Find.{find_from, is_granted}
+use Rattle.record_batch.specs.Sequences.Makers.{makers}
 use Rattle.tables_ahead.proofs.known.Known.grant_ahead.Given as goal
 use Rattle.tables_ahead.specs.Known.{all_records, find_ahead}
 

@@ -2,7 +2,7 @@ use Rattle.std.proofs.Common.{◌++◌, List, map, sym, ap, ◌∙◌}
 use Rattle.std.specs.Prelude.{◌||◌}
 use Rattle.rm_base.specs.NumberSet.{has_number}
 use Rattle.rm_sides.specs.Destination.Messages.{numbers_of}
-use Rattle.sequence_table.specs.Destinations.{held, received}
+use Rattle.record_batch.specs.Sequences.Destinations.{held, received}
 use Rattle.record_batch.specs.declared.record.Record.{Record}
 use Rattle.record_batch.specs.Fact.{fact_of}
 use Rattle.tables_ahead.specs.Known.{all_records, KnownRecords}

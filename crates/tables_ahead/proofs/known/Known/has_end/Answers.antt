@@ -1,6 +1,6 @@
 use Rattle.std.proofs.Common.{◌++◌, List, map, sym, ap, ◌∙◌}
 use Rattle.std.specs.Prelude.{◌||◌}
-use Rattle.sequence_table.specs.Destinations.{has_end}
+use Rattle.record_batch.specs.Sequences.Destinations.{has_end}
 use Rattle.record_batch.specs.declared.record.Record.{Record}
 use Rattle.record_batch.specs.Fact.{fact_of}
 use Rattle.tables_ahead.specs.Known.{all_records, KnownRecords}

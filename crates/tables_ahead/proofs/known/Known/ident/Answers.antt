@@ -2,8 +2,8 @@ use Rattle.std.proofs.Common.{◌++◌, List, length, map, sym, ap, ◌∙◌}
 use Rattle.std.specs.Option.{option_or}
 use Rattle.record_batch.specs.declared.record.Record.{Record}
 use Rattle.record_batch.specs.Fact.{fact_of}
-use Rattle.sequence_table.specs.Makers.{created_from, ident_in, makers}
-use Rattle.sequence_table.specs.Sources.{out_ident}
+use Rattle.record_batch.specs.Sequences.Makers.{created_from, ident_in, makers}
+use Rattle.record_batch.specs.Sequences.Sources.{out_ident}
 use Rattle.tables_ahead.specs.Known.{all_records, KnownRecords}
 use Rattle.tables_ahead.proofs.PhaseLemmas.{ident-both}
 use Rattle.tables_ahead.proofs.known.Known.ident.Goals as goal

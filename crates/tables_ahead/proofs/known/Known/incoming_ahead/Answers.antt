@@ -1,7 +1,7 @@
 use Rattle.std.proofs.Common.{◌∙◌, ◌+◌, ◌++◌, ◌<◌, drop, cond, length, map, sym, ap, arith, Some, Bool}
 use Rattle.record_batch.specs.Fact.{fact_of}
-use Rattle.sequence_table.specs.Find.{find_from, is_incoming}
-use Rattle.sequence_table.specs.Makers.{makers, number}
+use Rattle.record_batch.specs.Sequences.Find.{find_from, is_incoming}
+use Rattle.record_batch.specs.Sequences.Makers.{makers, number}
 use Rattle.tables_ahead.proofs.FoundLemmas.{found, makers-behind}
 use Rattle.tables_ahead.proofs.known.Known.incoming_ahead.Goals as goal
 use Rattle.tables_ahead.specs.Known.{all_records, find_ahead, KnownRecords}

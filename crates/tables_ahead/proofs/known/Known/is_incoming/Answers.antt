@@ -1,6 +1,6 @@
 use Rattle.std.proofs.Common.{◌∙◌, ◌++◌, ap}
-use Rattle.sequence_table.specs.Find.{is_incoming}
-use Rattle.sequence_table.specs.Makers.{number}
+use Rattle.record_batch.specs.Sequences.Find.{is_incoming}
+use Rattle.record_batch.specs.Sequences.Makers.{number}
 use Rattle.node_tables.specs.Reads.{passes}
 use Rattle.tables_ahead.proofs.known.Known.is_incoming.Goals as goal
 use Rattle.tables_ahead.specs.Known.{all_records}

@@ -1,6 +1,6 @@
 use Rattle.std.proofs.Common.{◌++◌, List, map, sym, ap, ◌∙◌}
 use Rattle.std.specs.Prelude.{◌||◌}
-use Rattle.sequence_table.specs.Destinations.{is_stopped}
+use Rattle.record_batch.specs.Sequences.Destinations.{is_stopped}
 use Rattle.record_batch.specs.declared.record.Record.{Record}
 use Rattle.record_batch.specs.Fact.{fact_of}
 use Rattle.tables_ahead.specs.Known.{all_records, KnownRecords}

@@ -2,7 +2,7 @@ use Rattle.std.proofs.Common.{◌++◌, ◌-◌, ◌<◌, ◌≤◌, List, arith
 use Rattle.std.specs.Prelude.{slice_get}
 use Rattle.record_batch.specs.declared.record.Record.{Record}
 use Rattle.record_batch.specs.Fact.{fact_of}
-use Rattle.sequence_table.specs.Makers.{maker, makers}
+use Rattle.record_batch.specs.Sequences.Makers.{maker, makers}
 use Rattle.tables_ahead.specs.Known.{all_records, KnownRecords}
 use Rattle.tables_ahead.proofs.FoundLemmas.{maker-ahead, maker-known}
 use Rattle.tables_ahead.proofs.known.Known.maker.Goals as goal

@@ -1,5 +1,5 @@
 use Rattle.std.proofs.Common.{◌+◌, ◌<◌, ◌++◌, arith, length, sym}
-use Rattle.sequence_table.specs.Makers.{makers}
+use Rattle.record_batch.specs.Sequences.Makers.{makers}
 use Rattle.tables_ahead.proofs.FoundLemmas.{maker-past}
 use Rattle.tables_ahead.proofs.known.Known.maker_behind.Goals as goal
 use Rattle.tables_ahead.specs.Known.{all_records}

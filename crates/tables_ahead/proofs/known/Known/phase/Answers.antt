@@ -1,9 +1,9 @@
 use Rattle.std.proofs.Common.{List, length, map, sym, ap, ◌∙◌}
 use Rattle.record_batch.specs.declared.record.Record.{Record}
 use Rattle.record_batch.specs.Fact.{fact_of}
-use Rattle.sequence_table.specs.Makers.{created_from, ident_in, makers}
-use Rattle.sequence_table.specs.Sources.{marks, phase}
-use Rattle.sequence_table.specs.Words.{last_or}
+use Rattle.record_batch.specs.Sequences.Makers.{created_from, ident_in, makers}
+use Rattle.record_batch.specs.Sequences.Sources.{marks, phase}
+use Rattle.record_batch.specs.Sequences.Words.{last_or}
 use Rattle.tables_ahead.specs.Known.{KnownRecords, opened}
 use Rattle.tables_ahead.proofs.PhaseLemmas.{phase-both}
 use Rattle.tables_ahead.proofs.known.Known.phase.Goals as goal

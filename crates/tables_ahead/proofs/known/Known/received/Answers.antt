@@ -2,8 +2,8 @@ use Rattle.std.proofs.Common.{◌≡◌, [], ◌++◌, List, map, true, sym, sub
 use Rattle.rm_sides.specs.Destination.Messages.{numbers_of, ranges_onto}
 use Rattle.record_batch.specs.declared.record.Record.{Record}
 use Rattle.record_batch.specs.Fact.{fact_of}
-use Rattle.sequence_table.specs.Destinations.{held, received}
-use Rattle.sequence_table.specs.Fits.{all_fit}
+use Rattle.record_batch.specs.Sequences.Destinations.{held, received}
+use Rattle.record_batch.specs.Sequences.Fits.{all_fit}
 use Rattle.tables_ahead.specs.Known.{all_records, KnownRecords, AreNumbers}
 use Rattle.tables_ahead.proofs.GatheredLemmas.{held-both, ranges_onto-append}
 use Rattle.tables_ahead.proofs.SideLemmas.{numbers-fit}

@@ -1,0 +1,3 @@
+-- The lemmas of `sequences`.
+pub mod DrawLemmas
+pub mod IdentLemmas

@@ -1,0 +1,20 @@
+-- The definitions of `sequences`.
+pub mod Destinations
+pub mod Examples
+pub mod Find
+pub mod Fits
+pub mod GatherLemmas
+pub mod IdentTexts
+pub mod Idents
+pub mod Makers
+pub mod NameLemmas
+pub mod NodeLemmas
+pub mod OneMore
+pub mod PhaseLemmas
+pub mod RowLemmas
+pub mod SetLemmas
+pub mod Sources
+pub mod StayLemmas
+pub mod Told
+pub mod ToldLemmas
+pub mod Words

@@ -1,0 +1,23 @@
+-- The definitions of `snapshot`.
+pub mod AckedLemmas
+pub mod CapLemmas
+pub mod EachLemmas
+pub mod Examples
+pub mod FactLemmas
+pub mod FitLemmas
+pub mod FrameLemmas
+pub mod GoneLemmas
+pub mod GotLemmas
+pub mod ItemLemmas
+pub mod KeepLemmas
+pub mod LooseLemmas
+pub mod NumberLemmas
+pub mod PassedLemmas
+pub mod PastLemmas
+pub mod Same
+pub mod SameLemmas
+pub mod SentLemmas
+pub mod Snapshot
+pub mod TwiceLemmas
+pub mod WalkLemmas
+pub mod WrittenLemmas

@@ -1,2 +1,0 @@
-mod DrawLemmas
-mod IdentLemmas
