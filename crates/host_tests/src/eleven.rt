@@ -3,7 +3,7 @@ use crate::machine::{MAKE, Machine, conn, prints};
 use rm_base::{Blob, MemClock, Memory, Numbers, push_decimal};
 use rm_disk::MemDisk;
 use rm_disk::journal::{Journal, JournalError};
-use rm_link::MemLink;
+use http_endpoint::link::MemLink;
 use std::alloc::Global;
 use std::test::Fail;
 

@@ -3,7 +3,7 @@ use crate::machine::{MAKE, Machine, conn, prints};
 use crate::serving::CREATE;
 use rm_base::{MemClock, Memory, Numbers};
 use rm_disk::MemDisk;
-use rm_link::MemLink;
+use http_endpoint::link::MemLink;
 use std::alloc::Global;
 
 // The second message of the sequence, before which the first is missing.

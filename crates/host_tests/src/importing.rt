@@ -2,7 +2,7 @@
 use crate::machine::{MAKE, Machine, imports, prints};
 use rm_base::{MemClock, Memory, Numbers};
 use rm_disk::MemDisk;
-use rm_link::MemLink;
+use http_endpoint::link::MemLink;
 use std::alloc::Global;
 
 // Journals of the layout before: one that is cut, one whose entry `ab` is no batch, and one of no entries. A journal of

@@ -2,7 +2,7 @@
 use rm_base::{Blob, Items, MemClock, MemConn, MemSink, MemSource, Memory, Numbers};
 use rm_disk::MemDisk;
 use rm_host::{Host, run};
-use rm_link::MemLink;
+use http_endpoint::link::MemLink;
 use std::alloc::Global;
 
 /// A node over a disk and a link in memory.

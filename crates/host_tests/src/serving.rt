@@ -2,7 +2,7 @@
 use crate::machine::{MAKE, Machine, conn, prints};
 use rm_base::{MemClock, Memory, Numbers};
 use rm_disk::MemDisk;
-use rm_link::MemLink;
+use http_endpoint::link::MemLink;
 use std::alloc::Global;
 
 const SERVE: &[&[u8]] = &[b"serve", b"1", b"3", b"dfg"];

@@ -6,3 +6,4 @@ pub mod FieldFacts
 pub mod HeadFacts
 pub mod MessageFacts
 pub mod WriteFacts
+pub mod LinkLemmas

@@ -19,3 +19,4 @@ pub mod Targets
 pub mod Texts
 pub mod OneAnswer
 pub mod OneMessage
+pub mod Link

@@ -25,3 +25,5 @@ pub use request::{read_request, read_request_as};
 pub use response::{Response, read_response};
 pub use target::{Target, read_target};
 pub use write::{write_request, write_request_as, write_response, write_response_as};
+
+pub mod link;

@@ -8,7 +8,7 @@ use rm_base::{Blob, Memory, StdClock, StdSink, StdSource};
 use rm_disk::MemDisk;
 use rm_disk::file::FileDisk;
 use rm_host::{End, Host, explain};
-use rm_link::TcpLink;
+use http_endpoint::link::TcpLink;
 use rm_base::wire::MemWire;
 use rm_replay::Stage;
 use run::run;

@@ -13,7 +13,7 @@ ghost use Rattle.rm_replay.specs.Shows.{IsFresh, scene_of};
 use rm_base::{Blob, Clock, Sink, Source};
 use rm_disk::{CrashDisk, Disk};
 use rm_host::{Host, is_of_node};
-use rm_link::Link;
+use http_endpoint::link::Link;
 use rm_base::wire::Wire;
 use rm_replay::Stage;
 use std::alloc::Global;

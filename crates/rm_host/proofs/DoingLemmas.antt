@@ -14,7 +14,7 @@ use Rattle.rm_node.specs.Asked.{Asked, Close as Closes, End as Finishes, Tick}
 use Rattle.rm_serve.specs.Steps.{Place}
 use Rattle.rm_host.specs.HostSteps.{Pushes}
 use Rattle.rm_host.specs.ServeSteps.{Serves}
-use Rattle.rm_link.specs.Lines.{Net, is_over}
+use Rattle.http_endpoint.specs.Link.Lines.{Net, is_over}
 use Rattle.node_tables.specs.Reads.{incoming_in}
 use Rattle.record_batch.specs.Fact.{Fact}
 use Rattle.record_batch.specs.Sequences.Makers.{makers}

@@ -4,7 +4,7 @@ use Rattle.std.specs.Prelude.{IsTrue, Result}
 use Rattle.node_laws.specs.OwnTerms.{AreOwn}
 use Rattle.rm_base.specs.declared.message.Behaviour.{Behaviour}
 use Rattle.rm_disk.specs.Told.{Told}
-use Rattle.rm_link.specs.Lines.{Net}
+use Rattle.http_endpoint.specs.Link.Lines.{Net}
 use Rattle.rm_protocol.specs.Terms.{Terms}
 use Rattle.rm_serve.specs.Steps.{MakesAll, Place, Step}
 use Rattle.rm_host.specs.Finding.{Found}

@@ -5,7 +5,7 @@ use Rattle.std.specs.Prelude.{MatchBool}
 use Rattle.http_endpoint.specs.declared.media.Media.TheVariants.{Soap12}
 use Rattle.node_tables.specs.Reads.{outgoing_in}
 use Rattle.record_batch.specs.Fact.{Fact}
-use Rattle.rm_link.specs.Lines.{Net}
+use Rattle.http_endpoint.specs.Link.Lines.{Net}
 use Rattle.rm_node.specs.Asked.{Asked}
 use Rattle.rm_node.specs.declared.packets.Out.{Out}
 use Rattle.rm_serve.specs.Steps.{Place, Step}

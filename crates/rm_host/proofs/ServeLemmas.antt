@@ -5,7 +5,7 @@ use Rattle.std.proofs.Common.{Option, Result, Ok, Err}
 use Rattle.std.proofs.lemmas.List.{append-nil}
 use Rattle.http_endpoint.specs.declared.media.Media.{Media}
 use Rattle.rm_disk.specs.Told.{Told}
-use Rattle.rm_link.specs.Lines.{Listens, Net}
+use Rattle.http_endpoint.specs.Link.Lines.{Listens, Net}
 use Rattle.rm_serve.specs.Steps.{MakesAll, Place, Step}
 use Rattle.rm_serve.specs.declared.serving.ConnEnd.{ConnEnd}
 use Rattle.rm_base.specs.Outside.{Stream}

@@ -13,10 +13,10 @@ use Rattle.record_batch.specs.Fact.{Fact}
 use Rattle.rm_base.specs.Outside.{Stream}
 use Rattle.rm_base.specs.declared.message.Behaviour.{Behaviour}
 use Rattle.rm_disk.specs.Told.{Told}
-use Rattle.rm_link.specs.Lines.{Brings, Connects, Line, Listens, Net, is_over, line_of}
-use Rattle.rm_link.specs.Posts.{IsBegunAs, IsPostAs}
-use Rattle.rm_link.specs.declared.packet.Fate.{Fate}
-use Rattle.rm_link.specs.declared.packet.Fate.TheVariants.{Answered, Missed, Undialled}
+use Rattle.http_endpoint.specs.Link.Lines.{Brings, Connects, Line, Listens, Net, is_over, line_of}
+use Rattle.http_endpoint.specs.Link.Posts.{IsBegunAs, IsPostAs}
+use Rattle.http_endpoint.specs.declared.link.packet.Fate.{Fate}
+use Rattle.http_endpoint.specs.declared.link.packet.Fate.TheVariants.{Answered, Missed, Undialled}
 use Rattle.rm_node.specs.Asked.{Asked}
 use Rattle.rm_node.specs.declared.error.NodeError.{NodeError}
 use Rattle.rm_node.specs.declared.error.NodeError.TheVariants as error

@@ -9,7 +9,7 @@ use Rattle.rm_base.specs.Count.{Rose, RoseBy}
 use Rattle.rm_base.specs.Outside.{Stream}
 use Rattle.rm_disk.specs.Cause.{HasCause}
 use Rattle.rm_disk.specs.Told.{Told}
-use Rattle.rm_link.specs.Lines.{Net}
+use Rattle.http_endpoint.specs.Link.Lines.{Net}
 use Rattle.rm_node.specs.declared.error.NodeError.{NodeError}
 use Rattle.rm_node.specs.declared.error.NodeError.TheVariants as node
 use Rattle.rm_report.specs.Exits as exits

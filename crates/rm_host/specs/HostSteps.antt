@@ -7,7 +7,7 @@ use Rattle.node_store.specs.declared.error.MountError.{MountError}
 use Rattle.record_batch.specs.declared.record.Via.TheVariants.{Back}
 use Rattle.rm_base.specs.declared.message.Behaviour.{Behaviour}
 use Rattle.rm_disk.specs.Told.{Told}
-use Rattle.rm_link.specs.Lines.{Net}
+use Rattle.http_endpoint.specs.Link.Lines.{Net}
 use Rattle.rm_node.specs.Asked.{Asked, Close, Tick}
 use Rattle.rm_node.specs.Ends.{Ended, Handed}
 use Rattle.rm_node.specs.declared.error.NodeError.{NodeError}

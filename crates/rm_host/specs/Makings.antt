@@ -6,7 +6,7 @@ use Rattle.node_store.specs.Stored.{first_stored}
 use Rattle.record_batch.specs.Fact.{Made}
 use Rattle.rm_disk.specs.Call.{seen_of}
 use Rattle.rm_disk.specs.Told.{Told}
-use Rattle.rm_link.specs.Lines.{Net}
+use Rattle.http_endpoint.specs.Link.Lines.{Net}
 use Rattle.rm_serve.specs.Steps.{Place, Step}
 use Rattle.rm_host.specs.Sequences.{inbox_answer}
 use Rattle.rm_host.specs.declared.end.End.{End}

@@ -7,7 +7,7 @@ use Rattle.rm_base.specs.NumberSet.{has_number}
 use Rattle.rm_base.specs.Outside.{Stream}
 use Rattle.rm_disk.specs.Cause.{HasCause}
 use Rattle.rm_disk.specs.Told.{Told}
-use Rattle.rm_link.specs.Lines.{Net, is_over}
+use Rattle.http_endpoint.specs.Link.Lines.{Net, is_over}
 use Rattle.rm_report.specs.Exits as exits
 use Rattle.rm_host.specs.Ends.{Faults, Prints, Took, WasTooLong, faults_of, is_of_input, is_outer}
 use Rattle.rm_host.specs.Words.{Asks, HasTarget, IsCommand, IsLost}

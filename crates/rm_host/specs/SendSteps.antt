@@ -5,7 +5,7 @@ use Rattle.node_tables.specs.Reads.{outgoing_in}
 use Rattle.record_batch.specs.Fact.{Fact}
 use Rattle.rm_base.specs.declared.message.Behaviour.TheVariants.{FollowingFirstGap}
 use Rattle.rm_disk.specs.Told.{Told}
-use Rattle.rm_link.specs.Lines.{Net}
+use Rattle.http_endpoint.specs.Link.Lines.{Net}
 use Rattle.rm_node.specs.Asked.{Asked, Create, Send, Tick}
 use Rattle.rm_node.specs.declared.packets.Out.{Out}
 use Rattle.record_batch.specs.Sequences.Makers.{makers}

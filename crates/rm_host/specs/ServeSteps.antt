@@ -6,7 +6,7 @@ use Rattle.node_store.specs.declared.error.MountError.{MountError}
 use Rattle.rm_base.specs.Outside.{Stream}
 use Rattle.rm_base.specs.declared.message.Behaviour.{Behaviour}
 use Rattle.rm_disk.specs.Told.{Told}
-use Rattle.rm_link.specs.Lines.{Connects, Line, Listens, Net, line_of}
+use Rattle.http_endpoint.specs.Link.Lines.{Connects, Line, Listens, Net, line_of}
 use Rattle.rm_node.specs.Asked.{Tick}
 use Rattle.rm_node.specs.declared.error.NodeError.{NodeError}
 use Rattle.rm_node.specs.declared.packets.Out.{Out}

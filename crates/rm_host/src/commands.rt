@@ -23,7 +23,7 @@ use node_tables::Tables;
 use rm_base::{Blob, Clock, Memory, Uri, push_decimal};
 use rm_sides::destination::Incoming;
 use rm_disk::Disk;
-use rm_link::Link;
+use http_endpoint::link::Link;
 use rm_node::{Node, Outs};
 use rm_serve::Posted;
 use std::alloc::Global;

@@ -20,7 +20,7 @@ use node_tables::laws::an_incoming_sequence_is_as_recorded;
 use rm_base::{Blob, Clock, Memory, Sink, SinkError, push_decimal, write_all};
 use rm_sides::destination::Incoming;
 use rm_disk::Disk;
-use rm_link::Link;
+use http_endpoint::link::Link;
 use std::alloc::Global;
 
 /// Prints the items of an inbox past the cursor up to one, and records then that they were consumed. Where it stops

@@ -19,7 +19,7 @@ use rm_base::{
 };
 use rm_disk::Disk;
 use rm_disk::file::{Fault as DiskFault, FileDisk, NAME};
-use rm_link::{Fault as LinkFault, Link, TcpLink};
+use http_endpoint::link::{Fault as LinkFault, Link, TcpLink};
 use rm_report::exits;
 use std::alloc::Global;
 use std::process::ExitCode;

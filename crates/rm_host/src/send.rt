@@ -22,7 +22,7 @@ use node_tables::{Peer, Tables};
 use rm_base::limits::PAYLOAD_BYTES;
 use rm_base::{Blob, Clock, Memory, ReadError, Source, Uri, push_decimal, read_up_to};
 use rm_disk::Disk;
-use rm_link::Link;
+use http_endpoint::link::Link;
 use rm_node::{Node, Outs};
 use rm_sides::source::OutPhase;
 use std::alloc::Global;

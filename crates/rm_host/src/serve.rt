@@ -1,6 +1,6 @@
 //! The commands `serve` and `serve11`.
 ghost use Rattle.std.specs.Prelude.{◌≡◌, ◌+◌, ◌<◌, ◌++◌, List, IfOk, IfErr, OnOk, false};
-ghost use Rattle.rm_link.specs.Lines.{Listens};
+ghost use Rattle.http_endpoint.specs.Link.Lines.{Listens};
 ghost use Rattle.rm_serve.specs.Steps.{IsUp, MakesAll, Step, place_of};
 ghost use Rattle.rm_host.specs.Ends.{HasReason, faults_of, is_outer};
 ghost use Rattle.rm_host.specs.Finding.{Found};
@@ -17,7 +17,7 @@ use crate::words::Service;
 use http_endpoint::Media;
 use rm_base::{Blob, Clock, Memory, push_decimal};
 use rm_disk::Disk;
-use rm_link::Link;
+use http_endpoint::link::Link;
 use rm_node::{Node, Outs};
 use rm_serve::ConnEnd;
 use std::alloc::Global;

@@ -6,10 +6,10 @@ use Rattle.http_endpoint.specs.declared.media.Media.{Media}
 use Rattle.http_endpoint.specs.declared.target.Target.{Target}
 use Rattle.rm_base.specs.Count.{RoseBy}
 use Rattle.rm_base.specs.CountLemmas.{RoseBy-more}
-use Rattle.rm_link.specs.Lines.{Net}
-use Rattle.rm_link.specs.Posts.{IsPostAs}
-use Rattle.rm_link.specs.declared.packet.Fate.{Fate}
-use Rattle.rm_link.specs.declared.packet.Fate.TheVariants.{Answered, Missed, Undialled}
+use Rattle.http_endpoint.specs.Link.Lines.{Net}
+use Rattle.http_endpoint.specs.Link.Posts.{IsPostAs}
+use Rattle.http_endpoint.specs.declared.link.packet.Fate.{Fate}
+use Rattle.http_endpoint.specs.declared.link.packet.Fate.TheVariants.{Answered, Missed, Undialled}
 use Rattle.rm_node.specs.declared.error.NodeError.{NodeError}
 use Rattle.rm_node.specs.declared.packets.Out.{Out}
 use Rattle.rm_serve.specs.Posts.{IsPostOf, PostingAs, Sends, with_post}

@@ -4,10 +4,10 @@ use Rattle.std.proofs.Common.{Result, Ok, Err, IfOk, OnErr, inl, inr, append_ass
 use Rattle.http_endpoint.specs.Targets.{target_of}
 use Rattle.http_endpoint.specs.declared.media.Media.{Media}
 use Rattle.rm_base.specs.declared.failures.Memory.{Memory}
-use Rattle.rm_link.specs.Lines.{Net}
-use Rattle.rm_link.specs.Posts.{IsBegunAs, IsPostAs}
-use Rattle.rm_link.specs.declared.packet.Fate.{Fate}
-use Rattle.rm_link.specs.declared.packet.Fate.TheVariants.{Missed}
+use Rattle.http_endpoint.specs.Link.Lines.{Net}
+use Rattle.http_endpoint.specs.Link.Posts.{IsBegunAs, IsPostAs}
+use Rattle.http_endpoint.specs.declared.link.packet.Fate.{Fate}
+use Rattle.http_endpoint.specs.declared.link.packet.Fate.TheVariants.{Missed}
 use Rattle.rm_node.specs.declared.error.NodeError.{NodeError}
 use Rattle.rm_node.specs.declared.error.NodeError.TheVariants as error
 use Rattle.rm_node.specs.declared.packets.Out.{Out}

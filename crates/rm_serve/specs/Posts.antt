@@ -5,10 +5,10 @@ use Rattle.http_endpoint.specs.Targets.{target_of}
 use Rattle.http_endpoint.specs.declared.media.Media.{Media}
 use Rattle.http_endpoint.specs.declared.media.Media.TheVariants.{Soap12, Soap11}
 use Rattle.http_endpoint.specs.declared.target.Target.{Target}
-use Rattle.rm_link.specs.Lines.{Net}
-use Rattle.rm_link.specs.Posts.{IsBegunAs, IsPostAs}
-use Rattle.rm_link.specs.declared.packet.Fate.{Fate}
-use Rattle.rm_link.specs.declared.packet.Fate.TheVariants.{Answered, Missed, Undialled}
+use Rattle.http_endpoint.specs.Link.Lines.{Net}
+use Rattle.http_endpoint.specs.Link.Posts.{IsBegunAs, IsPostAs}
+use Rattle.http_endpoint.specs.declared.link.packet.Fate.{Fate}
+use Rattle.http_endpoint.specs.declared.link.packet.Fate.TheVariants.{Answered, Missed, Undialled}
 use Rattle.rm_message.specs.declared.message.Message.{Message}
 use Rattle.rm_message.specs.declared.refusal.FaultKind.{FaultKind}
 use Rattle.rm_message.specs.declared.refusal.Refusal.{Refusal}

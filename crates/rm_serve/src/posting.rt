@@ -13,7 +13,7 @@ use crate::version::{Entry, enter, tell};
 use http_endpoint::Media;
 use rm_base::{Blob, Memory};
 use rm_disk::Disk;
-use rm_link::{Fate, Link, post_as};
+use http_endpoint::link::{Fate, Link, post_as};
 use rm_node::{Node, NodeError, Out, Outs, Reaction};
 use std::alloc::Global;
 use std::collections::VecDeque;

@@ -1,7 +1,7 @@
 use Rattle.std.proofs.Common.{◌∙◌, ◌∷◌, ℕ, Err, Ok, ap, refl, sym, subst}
 use Rattle.std.proofs.lemmas.Result.{err_from_is_err_and}
 use Rattle.rm_base.specs.declared.message.Behaviour.TheVariants.{FollowingFirstGap}
-use Rattle.rm_link.specs.Lines.{Net}
+use Rattle.http_endpoint.specs.Link.Lines.{Net}
 use Rattle.rm_node.specs.Asked.{Close}
 use Rattle.rm_serve.specs.Steps.{Place, place_of}
 use Rattle.rm_host.proofs.RecordLemmas.{acted-so}

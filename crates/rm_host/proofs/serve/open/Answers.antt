@@ -3,7 +3,7 @@ use Rattle.std.specs.Prelude.{IfErr}
 use Rattle.std.proofs.lemmas.Result.{err_from_is_err_and}
 use Rattle.rm_base.specs.declared.message.Behaviour.{Behaviour}
 use Rattle.rm_disk.specs.Told.{Told}
-use Rattle.rm_link.specs.Lines.{Listens, Net}
+use Rattle.http_endpoint.specs.Link.Lines.{Listens, Net}
 use Rattle.rm_node.specs.Noded.{Noded, granting}
 use Rattle.rm_serve.specs.Steps.{IsUp, Place, place_of}
 use Rattle.rm_host.specs.Ends.{faults_of}

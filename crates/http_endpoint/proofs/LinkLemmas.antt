@@ -1,0 +1,2 @@
+-- The lemmas of `link`.
+pub mod PacketLemmas

@@ -1,0 +1,44 @@
+//! What brings connections to and from other nodes.
+ghost use Rattle.std.specs.Prelude.{◌≡◌, [], ◌∷◌, is_err};
+ghost use Rattle.http_endpoint.specs.Link.Lines.{Asks, Connects, Dialled, Ended, Listens, Net, brought};
+
+use rm_base::{Connection, Failed, Sink, Source};
+
+/// What brings connections: those that come to a port, and those to other hosts. On one to another host the request is
+/// written first, and then the response is read: it is a sink until `asked`, and a source from then on.
+pub trait Link {
+    /// A connection that came.
+    type Conn: Connection + Drop;
+
+    /// One that was dialled, on which the request is written.
+    type Asking: Sink + Drop;
+
+    /// The same once nothing more is written on it, of which the response is read.
+    type Hearing: Source + Drop;
+
+    /// What it tells: the connections that `accept` and `dial` are to bring, what `listen`, `dial` and `hang_up` were
+    /// asked for, its count of faults, and whether it fails only where there is no connection to come.
+    ghost told: { Self → Net };
+
+    /// From now on connections to a port are taken.
+    fn listen(&mut self, port: u16) -> Result<(), Failed>
+        ensures { Listens (told self.old) (told self.new) port (is_err result) };
+
+    /// The next connection to the port.
+    fn accept(&mut self) -> Result<Self::Conn, Failed>
+        ensures connects { Connects (told self.old) (told self.new) (brought Self.Conn.Source.told result) }
+        ensures past { (told self.new).past ≡ (told self.old).past };
+
+    /// A connection to a port of a host.
+    fn dial(&mut self, host: &[u8], port: u16) -> Result<Self::Asking, Failed>
+        ensures connects { Connects (told self.old) (told self.new) (brought Self.Asking.told result) }
+        ensures asks { Asks (told self.old).past (told self.new).past (Dialled host.now port ∷ []) };
+
+    /// Nothing more is written on a connection: what comes on it is read from now on.
+    fn asked(conn: Self::Asking) -> Self::Hearing
+        ensures { Self.Hearing.told result ≡ Self.Asking.told conn };
+
+    /// Ends a connection. What was written on it is known from then on, where link and connection tell it.
+    fn hang_up(&mut self, conn: Self::Hearing)
+        ensures { Ended (told self.old) (told self.new) (Self.Hearing.told conn).held };
+}

@@ -1,4 +1,0 @@
-pub mod Lines
-pub mod Mem
-pub mod Notes
-pub mod Posts
