@@ -14,8 +14,8 @@ use Rattle.rm_command.specs.Status.{status_of}
 use Rattle.rm_command.specs.declared.end.End.{End}
 use Rattle.rm_command.specs.declared.end.End.TheVariants.{Done, Usage, BadLine, ReadFault, WriteFault, TooLong}
 use Rattle.rm_command.specs.declared.end.End.TheVariants.{Refused, Memory}
-use Rattle.rm_soak.specs.Soak.{soak_script}
-use Rattle.rm_soak.specs.Summary.{summary_of}
+use Rattle.rm_script.specs.Soak.Soak.{soak_script}
+use Rattle.rm_script.specs.Soak.Summary.{summary_of}
 
 -- the words of a soak name one number
 one_number : (words : List (List ℕ)) (m n : ℕ) → AsksSoakOf words m → AsksSoakOf words n → m ≡ n

@@ -1,7 +1,7 @@
 -- What a run of `wsrm normal` and of `wsrm intersect` is, by how it ended, and what they print.
 use Rattle.std.specs.Prelude.{◌≡◌, ℕ, List, Option, None, Some, Result, Ok, Err}
 use Rattle.rm_base.specs.Limits as limits
-use Rattle.rm_report.specs.Exits as exits
+use Rattle.rm_script.specs.Report.Exits as exits
 use Rattle.soap_document.specs.declared.profile.error.EnvelopeError.TheVariants as documents
 use Rattle.rm_policy.specs.Alternatives.Finds.{FindsNormal, FindsCommon}
 use Rattle.rm_policy.specs.Alternatives.Texts.{normal_text}

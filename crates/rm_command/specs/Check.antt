@@ -1,7 +1,7 @@
 -- What a run of `wsrm check` is, by how it ended, and what it prints.
 use Rattle.std.specs.Prelude.{◌≡◌, ◌≤◌, ℕ, Bool, true, false, List, length, Option, Some, None, Result}
 use Rattle.rm_base.specs.Limits as limits
-use Rattle.rm_report.specs.Exits as exits
+use Rattle.rm_script.specs.Report.Exits as exits
 use Rattle.soap_envelope.specs.Soap.{soap_space}
 use Rattle.soap_envelope.specs.declared.envelope.Envelope.{Envelope}
 use Rattle.soap_document.specs.declared.profile.error.EnvelopeError.{EnvelopeError}
@@ -11,7 +11,7 @@ use Rattle.rm_message.specs.declared.refusal.FaultKind.TheVariants as kinds
 use Rattle.rm_message.specs.declared.refusal.Refusal.{Refusal}
 use Rattle.message_reader.specs.Reading.{IsReading}
 use Rattle.message_reader.specs.Refusals.{Spells, Refuses}
-use Rattle.message_lines.specs.Lines.{message_lines}
+use Rattle.rm_script.specs.MessageLines.Lines.{message_lines}
 use Rattle.rm_command.specs.declared.end.End.{End}
 use Rattle.rm_command.specs.declared.end.End.TheVariants.{Refused}
 use Rattle.rm_command.specs.declared.end.Fault.{Fault}

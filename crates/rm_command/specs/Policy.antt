@@ -2,7 +2,7 @@
 use Rattle.std.specs.Prelude.{◌≡◌, ℕ, Bool, true, false, List, ◌++◌, Ok, Err, codes}
 use Rattle.std.specs.Str.{IsUtf8}
 use Rattle.rm_base.specs.Limits as limits
-use Rattle.rm_report.specs.Exits as exits
+use Rattle.rm_script.specs.Report.Exits as exits
 use Rattle.soap_document.specs.Profile.Document.{Document}
 use Rattle.soap_document.specs.Profile.Tree.{Element}
 use Rattle.rm_policy.specs.Assertion.{is_granted}

@@ -5,14 +5,14 @@ use Rattle.rm_base.specs.Limits as limits
 use Rattle.rm_base.specs.Outside.{Stream}
 use Rattle.rm_protocol.specs.Delivered.{TakesNew}
 use Rattle.rm_protocol.specs.Terms.{Terms}
-use Rattle.rm_report.specs.Exits as exits
+use Rattle.rm_script.specs.Report.Exits as exits
 use Rattle.rm_script.specs.declared.event.Event.{Event}
 use Rattle.rm_script.specs.Script.{lines_of, IsScript, IsFirstBad}
 use Rattle.rm_replay.specs.Net.{AreOfNet}
 use Rattle.rm_replay.specs.Played.{IsUnmade, Played, Ran, RanShort, Story}
 use Rattle.rm_replay.specs.Shows.{Scene}
-use Rattle.rm_soak.specs.Soak.{soak_script}
-use Rattle.rm_soak.specs.Summary.{summary_of}
+use Rattle.rm_script.specs.Soak.Soak.{soak_script}
+use Rattle.rm_script.specs.Soak.Summary.{summary_of}
 use Rattle.rm_command.specs.declared.end.End.{End}
 use Rattle.rm_command.specs.declared.end.End.TheVariants.{Done, Usage, BadLine, ReadFault, WriteFault, TooLong}
 use Rattle.rm_command.specs.declared.end.End.TheVariants.{Refused, Memory}

@@ -3,7 +3,7 @@ use Rattle.std.specs.Prelude.{◌≡◌, ◌≢◌, ◌⊎◌, ℕ, ◌^◌, ◌
 use Rattle.std.specs.Prelude.{◌↔◌, IfSome}
 use Rattle.rm_base.specs.Limits as limits
 use Rattle.rm_base.specs.Outside.{Lasts}
-use Rattle.rm_report.specs.Exits as exits
+use Rattle.rm_script.specs.Report.Exits as exits
 use Rattle.rm_command.specs.declared.command.Command.{Command}
 use Rattle.rm_command.specs.declared.command.Command.TheVariants.{Replay, Soak, Check, Policy, Normal, Intersect}
 use Rattle.rm_command.specs.declared.end.End.{End}

@@ -1,7 +1,7 @@
 -- What a run does to a stage, the disks of two nodes and the wire between them, and what it keeps.
 use Rattle.std.specs.Prelude.{◌≡◌, ◌≢◌, ◌⊎◌, ℕ, List}
 use Rattle.rm_disk.specs.Told.{Told}
-use Rattle.rm_report.specs.Exits as exits
+use Rattle.rm_script.specs.Report.Exits as exits
 use Rattle.rm_replay.specs.declared.stage.Stage.{Stage}
 use Rattle.rm_replay.specs.Headline.{KeepsHeadline, KeepsLooseWord}
 use Rattle.rm_replay.specs.Played.{IsUnmade}

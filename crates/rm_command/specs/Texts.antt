@@ -2,7 +2,7 @@
 use Rattle.std.specs.Prelude.{ℕ, List, [], ◌++◌, codes, decimal}
 use Rattle.rm_message.specs.Kinds.{kind_name}
 use Rattle.rm_message.specs.declared.refusal.FaultKind.TheVariants as kinds
-use Rattle.rm_report.specs.Exits.{usage_line, read_fault_line, too_long_line}
+use Rattle.rm_script.specs.Report.Exits.{usage_line, read_fault_line, too_long_line}
 use Rattle.rm_command.specs.declared.end.End.{End}
 use Rattle.rm_command.specs.declared.end.End.TheVariants.{Done, Usage, BadLine, ReadFault, WriteFault, TooLong}
 use Rattle.rm_command.specs.declared.end.End.TheVariants.{Refused, Memory}

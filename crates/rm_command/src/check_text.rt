@@ -6,7 +6,7 @@ ghost use Rattle.rm_command.specs.declared.end.Fault.{Fault as AFault};
 
 use crate::end::Fault;
 use crate::filter::NoText;
-use message_lines::message_lines;
+use rm_script::message_lines::message_lines;
 use message_reader::decode_read;
 use rm_base::Blob;
 use rm_message::{DecodeError, FaultKind, Refusal};

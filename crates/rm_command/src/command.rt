@@ -19,9 +19,9 @@ use rm_disk::CrashDisk;
 use rm_base::wire::Wire;
 use rm_policy::laws::one_reading;
 use rm_replay::Stage;
-use rm_report::exits::USAGE_LINE;
+use rm_script::report::exits::USAGE_LINE;
 use rm_script::laws::no_bad_line;
-use rm_soak::number_in;
+use rm_script::soak::number_in;
 use std::alloc::Global;
 use rm_policy::alternatives::laws::what_is_found_is_not_refused;
 

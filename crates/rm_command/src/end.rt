@@ -6,7 +6,7 @@ ghost use Rattle.rm_command.specs.Status.{status_of};
 ghost use Rattle.rm_command.specs.Texts.{line_of};
 
 use rm_base::{Blob, Memory, Sink, push_decimal, write_all};
-use rm_report::exits;
+use rm_script::report::exits;
 use std::alloc::Global;
 
 /// What keeps bytes from being a message, an assertion, or a policy within the limits.

@@ -9,7 +9,7 @@ ghost use Rattle.rm_command.specs.declared.filter.NoText.TheVariants.{Memory as 
 
 use crate::end::{End, Fault, refuse};
 use rm_base::{Blob, Memory, ReadError, Sink, SinkError, Source, read_up_to, write_all};
-use rm_report::exits::{READ_FAULT_LINE, TOO_LONG_LINE};
+use rm_script::report::exits::{READ_FAULT_LINE, TOO_LONG_LINE};
 use soap_pieces::{EnvelopeReader, read_source};
 use std::alloc::Global;
 

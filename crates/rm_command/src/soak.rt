@@ -6,7 +6,7 @@ ghost use Rattle.rm_command.specs.Stage.{KeepsLooseAt, KeepsWordAt, staged_of};
 ghost use Rattle.rm_command.specs.Status.{status_of};
 ghost use Rattle.rm_replay.specs.Shows.{IsFresh, scene_of};
 ghost use Rattle.rm_script.specs.Script.{lines_of, IsScript};
-ghost use Rattle.rm_soak.specs.Soak.{soak_script};
+ghost use Rattle.rm_script.specs.Soak.Soak.{soak_script};
 
 use crate::end::End;
 use crate::filter::write_text;
@@ -17,8 +17,8 @@ use rm_replay::laws::a_delivered_message_is_taken;
 use rm_replay::{Stage, run_script};
 use rm_script::laws::{no_bad_line, values_are_within};
 use rm_script::{Event, ScriptError, read_script};
-use rm_soak::laws::a_soak_is_a_script;
-use rm_soak::{script, summary};
+use rm_script::soak::laws::a_soak_is_a_script;
+use rm_script::soak::{script, summary};
 use std::alloc::Global;
 
 /// Plays the script of a number over the stage, and prints the summary of its report. Nothing is read.

@@ -9,7 +9,7 @@ use Rattle.rm_base.specs.declared.outside.SinkError.TheVariants as sink
 use Rattle.rm_disk.specs.Told.{Told}
 use Rattle.http_endpoint.specs.Link.Lines.{Net}
 use Rattle.rm_node.specs.Asked.{Asked, Close as Closes, End as Finishes, Tick}
-use Rattle.rm_report.specs.Exits as exits
+use Rattle.rm_script.specs.Report.Exits as exits
 use Rattle.rm_host.specs.Compaction.{Compaction}
 use Rattle.rm_host.specs.Consumption.{Consumption}
 use Rattle.rm_host.specs.Ends.{status_of}

@@ -8,7 +8,7 @@ use Rattle.rm_base.specs.Outside.{Stream}
 use Rattle.rm_disk.specs.Cause.{HasCause}
 use Rattle.rm_disk.specs.Told.{Told}
 use Rattle.http_endpoint.specs.Link.Lines.{Net, is_over}
-use Rattle.rm_report.specs.Exits as exits
+use Rattle.rm_script.specs.Report.Exits as exits
 use Rattle.rm_host.specs.Ends.{Faults, Prints, Took, WasTooLong, faults_of, is_of_input, is_outer}
 use Rattle.rm_host.specs.Words.{Asks, HasTarget, IsCommand, IsLost}
 use Rattle.rm_host.specs.declared.end.End.{End}

@@ -3,9 +3,9 @@ use Rattle.std.specs.Prelude.{◌≡◌, ℕ, ◌+◌, Bool, true, false, List, 
 use Rattle.hex.specs.Hex.{encode_lower}
 use Rattle.node_laws.specs.declared.answers.answer.Cause.{Cause}
 use Rattle.node_laws.specs.declared.answers.answer.Cause.TheVariants as cause
-use Rattle.rm_report.specs.Exits.{usage_line, read_fault_line, too_long_line}
-use Rattle.rm_report.specs.Report.{reason_text}
-use Rattle.rm_report.specs.declared.line.Reason.TheVariants as reason
+use Rattle.rm_script.specs.Report.Exits.{usage_line, read_fault_line, too_long_line}
+use Rattle.rm_script.specs.Report.Report.{reason_text}
+use Rattle.rm_script.specs.declared.report.line.Reason.TheVariants as reason
 use Rattle.rm_serve.specs.declared.posting.Posted.{Posted}
 use Rattle.rm_serve.specs.declared.serving.ConnEnd.{ConnEnd}
 use Rattle.rm_serve.specs.declared.serving.ConnEnd.TheVariants.{Done, Dropped}

@@ -20,7 +20,7 @@ use rm_base::{
 use rm_disk::Disk;
 use rm_disk::file::{Fault as DiskFault, FileDisk, NAME};
 use http_endpoint::link::{Fault as LinkFault, Link, TcpLink};
-use rm_report::exits;
+use rm_script::report::exits;
 use std::alloc::Global;
 use std::process::ExitCode;
 

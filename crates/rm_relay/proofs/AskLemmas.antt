@@ -5,7 +5,7 @@ use Rattle.rm_base.specs.Count.{RoseBy}
 use Rattle.rm_base.specs.declared.failures.Memory.{Memory}
 use Rattle.rm_disk.specs.Call.{crashes_of}
 use Rattle.rm_disk.specs.Told.{Told}
-use Rattle.rm_report.specs.declared.line.Outcome.{Outcome}
+use Rattle.rm_script.specs.declared.report.line.Outcome.{Outcome}
 use Rattle.rm_protocol.specs.Node.{Node, mounted}
 use Rattle.rm_protocol.specs.Terms.{Terms}
 use Rattle.rm_node.specs.Asked.{Asked}

@@ -9,7 +9,7 @@ use Rattle.std.proofs.lemmas.Option.{slice_get-map}
 use Rattle.rm_base.specs.Numbered.{numbered}
 use Rattle.rm_message.specs.declared.message.Message.{Message}
 use Rattle.rm_message.specs.declared.refusal.Refusal.{Refusal}
-use Rattle.rm_report.specs.declared.line.Outcome.TheVariants as told
+use Rattle.rm_script.specs.declared.report.line.Outcome.TheVariants as told
 use Rattle.rm_script.specs.declared.event.Side.{Side}
 use Rattle.record_batch.specs.Sequences.Words.{Text}
 use Rattle.rm_protocol.specs.Messages.{never}

@@ -4,8 +4,8 @@ use Rattle.std.proofs.Common.{subst, inl, inr}
 use Rattle.std.specs.Prelude.{◌⊎◌, Result, Ok, Err}
 use Rattle.record_batch.specs.Fact.{Fact}
 use Rattle.rm_base.specs.declared.failures.Memory.{Memory}
-use Rattle.rm_report.specs.declared.line.Outcome.{Outcome}
-use Rattle.rm_report.specs.declared.line.Outcome.TheVariants as told
+use Rattle.rm_script.specs.declared.report.line.Outcome.{Outcome}
+use Rattle.rm_script.specs.declared.report.line.Outcome.TheVariants as told
 use Rattle.rm_protocol.specs.Compact.{compacted as compacted_node}
 use Rattle.rm_protocol.specs.Node.{Node, armed as armed_by, mounted}
 use Rattle.rm_protocol.specs.Terms.{Terms}

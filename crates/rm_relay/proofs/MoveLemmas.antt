@@ -8,7 +8,7 @@ use Rattle.rm_base.specs.declared.failures.Memory.{Memory}
 use Rattle.rm_message.specs.declared.message.Message.{Message}
 use Rattle.rm_node.specs.Packets.{packet_of}
 use Rattle.rm_node.specs.declared.packets.Out.{Out}
-use Rattle.rm_report.specs.declared.line.Outcome.{Outcome}
+use Rattle.rm_script.specs.declared.report.line.Outcome.{Outcome}
 use Rattle.rm_protocol.specs.Addresses.{place_of}
 use Rattle.rm_protocol.specs.Pair.{Acted}
 use Rattle.rm_protocol.specs.Terms.{Terms}

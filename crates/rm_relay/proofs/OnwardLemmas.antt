@@ -7,7 +7,7 @@ use Rattle.rm_base.specs.declared.message.Payload.{Payload}
 use Rattle.record_batch.specs.Fact.{Fact}
 use Rattle.rm_disk.specs.Call.{Call as DeviceCall}
 use Rattle.rm_disk.specs.Told.{Told}
-use Rattle.rm_report.specs.declared.line.Outcome.TheVariants as told
+use Rattle.rm_script.specs.declared.report.line.Outcome.TheVariants as told
 use Rattle.record_batch.specs.Sequences.Words.{Text}
 use Rattle.node_store.specs.Stored.{Stored}
 use Rattle.rm_protocol.specs.Calls.{Answer, Done, consume, send}

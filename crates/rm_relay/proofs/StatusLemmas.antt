@@ -1,7 +1,7 @@
 -- Which status comes of the bytes of a relay's script.
 use Rattle.std.proofs.Common.{◌≡◌, ℕ, List, arith, inr, refl}
 use Rattle.std.specs.Prelude.{◌⊎◌, IfSome}
-use Rattle.rm_report.specs.Exits as exits
+use Rattle.rm_script.specs.Report.Exits as exits
 use Rattle.rm_script.specs.Script.{lines_of}
 use Rattle.rm_command.specs.declared.end.End.{End}
 use Rattle.rm_command.specs.declared.end.End.TheVariants.{Done, Usage, BadLine, ReadFault, WriteFault, TooLong}

@@ -1,7 +1,7 @@
 -- What a line does to three nodes, their disks, and a wire.
 use Rattle.std.specs.Prelude.{◌≡◌, ◌⊎◌, ◌&&◌, ℕ, Bool, false, List, ◌++◌, map, take, Option, Some, Result, Ok, Err}
 use Rattle.rm_base.specs.declared.failures.Memory.{Memory}
-use Rattle.rm_report.specs.declared.line.Outcome.{Outcome}
+use Rattle.rm_script.specs.declared.report.line.Outcome.{Outcome}
 use Rattle.rm_protocol.specs.Compact.{compact_outcome, compacted as compacted_node}
 use Rattle.rm_protocol.specs.Node.{CallOutcome, Node, armed as armed_by, call_outcome, mounted}
 use Rattle.rm_protocol.specs.Pair.{Acted, answers}

@@ -9,7 +9,7 @@ use Rattle.rm_protocol.specs.Crashes.{IsLeft}
 use Rattle.rm_protocol.specs.Node.{Node, records_in}
 use Rattle.rm_protocol.specs.Sound.{Keeps}
 use Rattle.rm_protocol.specs.Terms.{Terms}
-use Rattle.rm_report.specs.Exits as exits
+use Rattle.rm_script.specs.Report.Exits as exits
 use Rattle.node_store.specs.Has.{StandsForBatches}
 use Rattle.rm_relay.specs.Meaning.{Means, stepped}
 use Rattle.rm_relay.specs.Played.{IsUnmade, RanShort}

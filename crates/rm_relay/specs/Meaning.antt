@@ -3,7 +3,7 @@ use Rattle.std.specs.Prelude.{◌≡◌, ℕ, Bool, List, [], ◌∷◌, length,
 use Rattle.rm_base.specs.Numbered.{numbered}
 use Rattle.rm_base.specs.declared.message.Payload.{Payload}
 use Rattle.record_batch.specs.Fact.{Fact}
-use Rattle.rm_report.specs.declared.line.Outcome.TheVariants as told
+use Rattle.rm_script.specs.declared.report.line.Outcome.TheVariants as told
 use Rattle.rm_protocol.specs.Calls.{Done, ask_ack, close, consume, create, end, nack_missing, send, tick}
 use Rattle.rm_protocol.specs.Compact.{compact_outcome}
 use Rattle.rm_protocol.specs.Node.{Answered, CallOutcome, Node, State, Up, call_outcome, node_end, records}

@@ -2,7 +2,7 @@
 use Rattle.std.specs.Prelude.{◌≡◌, ◌⊎◌, ℕ, List}
 use Rattle.rm_base.specs.Limits as limits
 use Rattle.rm_protocol.specs.Terms.{Terms}
-use Rattle.rm_report.specs.Exits as exits
+use Rattle.rm_script.specs.Report.Exits as exits
 use Rattle.rm_script.specs.Script.{lines_of}
 use Rattle.rm_replay.specs.Net.{AreOfNet}
 use Rattle.rm_command.specs.Edge.{Edge}

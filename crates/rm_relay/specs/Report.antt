@@ -1,6 +1,6 @@
 -- The text of a relay's report: a line for each line of the script that does something, and then what the nodes know.
 use Rattle.std.specs.Prelude.{ℕ, List, [], ◌∷◌, ◌++◌, codes, decimal}
-use Rattle.rm_report.specs.Report.{outcome_text}
+use Rattle.rm_script.specs.Report.Report.{outcome_text}
 use Rattle.rm_replay.specs.Played.{known_text}
 use Rattle.rm_relay.specs.Word.World.{World}
 use Rattle.rm_relay.specs.declared.report.Ending.{Ending}

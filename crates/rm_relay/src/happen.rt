@@ -30,7 +30,7 @@ use rm_base::{Lapse, Memory, TextError, Uri};
 use rm_disk::CrashDisk;
 use rm_base::wire::Wire;
 use rm_node::Call;
-use rm_report::Outcome;
+use rm_script::report::Outcome;
 use rm_script::Side;
 use rm_wire::laws::what_is_written_is_read;
 use std::alloc::Global;

@@ -3,8 +3,8 @@ ghost use Rattle.std.specs.Prelude.{◌≡◌, ◌++◌, OnOk};
 ghost use Rattle.rm_relay.specs.Report.{counts_text, ending_text, line_text};
 
 use rm_base::{Blob, Memory, push_decimal};
-use rm_report::Outcome;
-use rm_report::line::{push_count, push_outcome};
+use rm_script::report::Outcome;
+use rm_script::report::line::{push_count, push_outcome};
 
 /// How a line of a relay's script came out.
 #[derive(Clone, Copy, Debug, PartialEq, Eq)]

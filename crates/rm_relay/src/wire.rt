@@ -10,7 +10,7 @@ use crate::word::Station;
 use rm_base::{Blob, Memory};
 use rm_base::wire::Wire;
 use rm_node::Out;
-use rm_report::Outcome;
+use rm_script::report::Outcome;
 use std::alloc::Global;
 
 /// The sender of each packet on the wire, in their order.

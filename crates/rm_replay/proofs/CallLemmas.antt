@@ -10,7 +10,7 @@ use Rattle.std.proofs.lemmas.Option.{slice_get-map}
 use Rattle.soap_envelope.specs.Soap.{soap_space}
 use Rattle.message_reader.specs.Refusals.{Refuses}
 use Rattle.rm_node.specs.Came.{IsReadAs}
-use Rattle.rm_report.specs.declared.line.Outcome.TheVariants as told
+use Rattle.rm_script.specs.declared.report.line.Outcome.TheVariants as told
 use Rattle.rm_base.specs.declared.message.Behaviour.{Behaviour}
 use Rattle.rm_base.specs.Numbered.{numbered}
 use Rattle.rm_base.specs.declared.lapse.Lapse.{Lapse}

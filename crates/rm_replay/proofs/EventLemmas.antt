@@ -10,8 +10,8 @@ use Rattle.rm_protocol.specs.Sent.{Called, outcome_of, same_side}
 use Rattle.rm_protocol.specs.Terms.{Terms}
 use Rattle.rm_protocol.specs.Word.{IsPrefixOf}
 use Rattle.rm_protocol.specs.World.{Side, One, Two, World, Event, Grant, Arm, Crash, happens, node, sent, with_node}
-use Rattle.rm_report.specs.declared.line.Outcome.{Outcome}
-use Rattle.rm_report.specs.declared.line.Outcome.TheVariants as told
+use Rattle.rm_script.specs.declared.report.line.Outcome.{Outcome}
+use Rattle.rm_script.specs.declared.report.line.Outcome.TheVariants as told
 use Rattle.rm_script.specs.declared.event.Event.{Event as Said}
 use Rattle.rm_script.specs.declared.event.Event.TheVariants as said
 use Rattle.rm_script.specs.declared.event.Side.{Side as Place}

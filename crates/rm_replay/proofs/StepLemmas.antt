@@ -9,7 +9,7 @@ use Rattle.rm_node.specs.declared.packets.Out.{Out}
 use Rattle.rm_protocol.specs.Node.{Node}
 use Rattle.rm_protocol.specs.Terms.{Terms}
 use Rattle.rm_protocol.specs.World.{Side, One, Two, World, hands_out, other, with_node}
-use Rattle.rm_report.specs.declared.line.Outcome.{Outcome}
+use Rattle.rm_script.specs.declared.report.line.Outcome.{Outcome}
 use Rattle.rm_replay.specs.Actor.Outcomes.{is_disk_outcome, packets_in}
 use Rattle.rm_replay.specs.Actor.Stands.{Stands}
 use Rattle.rm_replay.specs.declared.actor.actor.Came.{Came}

@@ -20,9 +20,9 @@ use Rattle.rm_protocol.specs.Calls.{Answer, consume, create, send, close, end, t
 use Rattle.rm_protocol.specs.Word.{IsPrefixOf}
 use Rattle.rm_base.specs.Numbered.{numbered}
 use Rattle.rm_base.specs.declared.failures.Memory.{Memory}
-use Rattle.rm_report.specs.Report.{line_text, lines_text}
-use Rattle.rm_report.specs.declared.line.Line.{Line}
-use Rattle.rm_report.specs.declared.line.Outcome.{Outcome}
+use Rattle.rm_script.specs.Report.Report.{line_text, lines_text}
+use Rattle.rm_script.specs.declared.report.line.Line.{Line}
+use Rattle.rm_script.specs.declared.report.line.Outcome.{Outcome}
 use Rattle.rm_script.specs.declared.event.Event.{Event as Said}
 use Rattle.rm_replay.specs.EntryLemmas.{entries_is}
 use Rattle.rm_replay.specs.Meaning.{Means, comes_out, report_of, stepped}

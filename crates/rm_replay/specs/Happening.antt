@@ -7,7 +7,7 @@ use Rattle.rm_protocol.specs.Compact.{compact_outcome, compacted as compacted_no
 use Rattle.rm_protocol.specs.Node.{Node, armed as armed_by, mounted}
 use Rattle.rm_protocol.specs.Terms.{Terms}
 use Rattle.rm_protocol.specs.World.{Event, Side, One, Two, World, hands_out, node, with_node}
-use Rattle.rm_report.specs.declared.line.Outcome.{Outcome}
+use Rattle.rm_script.specs.declared.report.line.Outcome.{Outcome}
 use Rattle.rm_script.specs.declared.event.Event.{Event as Said}
 use Rattle.rm_script.specs.declared.event.Event.TheVariants as said
 use Rattle.rm_script.specs.declared.event.Side.{Side as Place}

@@ -3,8 +3,8 @@ use Rattle.std.specs.Prelude.{◌≡◌, ◌⊎◌, ℕ, ◌+◌, List, ◌∷�
 use Rattle.rm_protocol.specs.Node.{Node, State, Up, records}
 use Rattle.rm_protocol.specs.Terms.{Terms}
 use Rattle.rm_protocol.specs.World.{One, Two, World, Event, start}
-use Rattle.rm_report.specs.Report.{down_text, lines_text}
-use Rattle.rm_report.specs.declared.line.Line.{Line}
+use Rattle.rm_script.specs.Report.Report.{down_text, lines_text}
+use Rattle.rm_script.specs.declared.report.line.Line.{Line}
 use Rattle.rm_script.specs.declared.event.Event.{Event as Said}
 use Rattle.rm_replay.specs.Actor.Stands.{Leaves}
 use Rattle.node_store.specs.Changes.{WasNotMade}

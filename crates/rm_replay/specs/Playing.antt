@@ -3,7 +3,7 @@ use Rattle.std.specs.Prelude.{◌≡◌, ℕ, List, ◌++◌, Option, Result, Ok
 use Rattle.rm_base.specs.declared.failures.Memory.{Memory}
 use Rattle.rm_protocol.specs.Terms.{Terms}
 use Rattle.rm_protocol.specs.World.{One, Two, World, Event}
-use Rattle.rm_report.specs.Report.{lines_text}
+use Rattle.rm_script.specs.Report.Report.{lines_text}
 use Rattle.rm_script.specs.declared.event.Event.{Event as Said}
 use Rattle.rm_replay.specs.Meaning.{Means, comes_out, report_of, stepped}
 use Rattle.rm_replay.specs.Played.{Played, RanShort, Story, TellBoth}

@@ -4,9 +4,9 @@ use Rattle.rm_disk.specs.Image.{MayLeave}
 use Rattle.rm_protocol.specs.Sent.{same_side}
 use Rattle.rm_protocol.specs.Word.{history}
 use Rattle.rm_protocol.specs.World.{Side, One, Two}
-use Rattle.rm_report.specs.declared.line.Line.{Line}
-use Rattle.rm_report.specs.declared.line.Outcome.{Outcome}
-use Rattle.rm_report.specs.declared.line.Outcome.TheVariants as told
+use Rattle.rm_script.specs.declared.report.line.Line.{Line}
+use Rattle.rm_script.specs.declared.report.line.Outcome.{Outcome}
+use Rattle.rm_script.specs.declared.report.line.Outcome.TheVariants as told
 use Rattle.rm_script.specs.declared.event.Event.{Event as Said}
 use Rattle.rm_script.specs.declared.event.Event.TheVariants as said
 use Rattle.record_batch.specs.Sequences.Words.{Text}

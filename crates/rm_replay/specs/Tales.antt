@@ -10,7 +10,7 @@ use Rattle.rm_protocol.specs.Terms.{Terms}
 use Rattle.rm_protocol.specs.World.{Packet, Side, World, Event, Create, Grant, Send, Tick, Deliver, Close, End, Arm}
 use Rattle.rm_protocol.specs.World.{Ask, Nack, Crash}
 use Rattle.rm_protocol.specs.World.{Noise, Poll, Compact, Consume, node, other}
-use Rattle.rm_report.specs.declared.line.Outcome.{Outcome}
+use Rattle.rm_script.specs.declared.report.line.Outcome.{Outcome}
 use Rattle.rm_script.specs.declared.event.Event.{Event as Said}
 use Rattle.rm_script.specs.declared.event.Event.TheVariants as said
 use Rattle.rm_replay.specs.Actor.Outcomes.{is_disk_outcome}

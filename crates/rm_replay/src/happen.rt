@@ -29,7 +29,7 @@ use rm_disk::CrashDisk;
 use rm_message::DecodeError;
 use rm_base::wire::Wire;
 use rm_node::Call;
-use rm_report::Outcome;
+use rm_script::report::Outcome;
 use rm_script::{Event, Side};
 use rm_wire::laws::what_is_written_is_read;
 use std::alloc::Global;

@@ -1,5 +1,5 @@
 //! Two durable nodes on two disks, a wire between them, and the scripts that are played over them. It stands on one
-//! node of a script, `actor`, on scripts and reports, `rm_script`, `rm_report` and `summary`, and on wires,
+//! node of a script, `actor`, on scripts and reports, `rm_script`, `rm_script::report` and `summary`, and on wires,
 //! `rm_base::wire`. The layer above may use `run_script` by the definitions of `specs/`, and the laws.
 #![tactic(auto)]
 

@@ -16,7 +16,7 @@ use crate::actor::laws::each_image_is_left;
 use rm_base::{Blob, Memory};
 use rm_disk::CrashDisk;
 use rm_base::wire::Wire;
-use rm_report::{Line, push_lines};
+use rm_script::report::{Line, push_lines};
 use rm_script::Event;
 use std::alloc::Global;
 

@@ -22,7 +22,7 @@ use crate::summary::push_node;
 use rm_base::{Blob, Memory};
 use rm_disk::CrashDisk;
 use rm_base::wire::Wire;
-use rm_report::push_down;
+use rm_script::report::push_down;
 use rm_script::{Event, Side};
 use std::alloc::Global;
 

@@ -8,7 +8,7 @@ use crate::actor::Came;
 use rm_base::{Blob, Memory};
 use rm_base::wire::Wire;
 use rm_node::Out;
-use rm_report::Outcome;
+use rm_script::report::Outcome;
 
 /// Puts packets for a node on the wire, one after the other.
 fn put_all<W: Wire>(wire: &mut W, to: u8, outs: &[Out]) -> Result<(), Memory>

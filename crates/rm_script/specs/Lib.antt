@@ -7,3 +7,6 @@ pub mod Within
 pub mod PlaceLemmas
 pub mod SaidLemmas
 pub mod WordLemmas
+pub mod Soak
+pub mod Report
+pub mod MessageLines

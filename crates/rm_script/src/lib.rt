@@ -13,3 +13,9 @@ pub mod word;
 pub use decimal::number_of;
 pub use event::{Event, Side};
 pub use script::{ScriptError, read_script};
+
+pub mod soak;
+
+pub mod report;
+
+pub mod message_lines;

@@ -7,7 +7,7 @@ mod show;
 use rm_base::{Clock, SinkError, StdClock, StdSink, write_all};
 use rm_disk::file::FileReader;
 use rm_host::{End, explain_disk};
-use rm_report::exits;
+use rm_script::report::exits;
 use std::env;
 use std::process::ExitCode;
 

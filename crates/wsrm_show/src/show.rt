@@ -7,7 +7,7 @@ use rm_base::{Blob, Memory, push_decimal};
 use rm_disk::Disk;
 use rm_host::End;
 use rm_node::Node;
-use rm_report::{push_receiving, push_sending};
+use rm_script::report::{push_receiving, push_sending};
 use std::alloc::Global;
 
 // How often a disk is read that is written meanwhile.

@@ -39,7 +39,7 @@ use Rattle.rm_node.specs.Keeping.{Keeping, Keeps, kept_after}
 use Rattle.rm_node.specs.Noded.{Noded, Runs}
 use Rattle.rm_node.specs.declared.kept.Kept.{Kept}
 use Rattle.rm_node.specs.Packets.{IsReplyFirst, fetched_packet, left_packets, packets_of, reply_of, reply_packet}
-use Rattle.rm_report.specs.declared.line.Outcome.TheVariants as told
+use Rattle.rm_script.specs.declared.report.line.Outcome.TheVariants as told
 use Rattle.rm_replay.specs.Actor.Actored.{Actored}
 use Rattle.rm_replay.specs.Actor.Comes.{ComesOut, IsTold}
 use Rattle.rm_replay.specs.declared.actor.actor.Came.{Came}

@@ -16,7 +16,7 @@ use Rattle.rm_protocol.specs.Delivered.{IsWriting}
 use Rattle.rm_protocol.specs.Node.{Node, State, Up, Writing, Compacting, Answered, DiskFault, IsDown, alone, burned}
 use Rattle.rm_protocol.specs.Node.{fresh_entries, is_short, records}
 use Rattle.rm_protocol.specs.Terms.{Terms}
-use Rattle.rm_report.specs.declared.line.Outcome.{Outcome}
+use Rattle.rm_script.specs.declared.report.line.Outcome.{Outcome}
 use Rattle.node_store.specs.declared.error.RewriteError.{RewriteError}
 use Rattle.node_store.specs.declared.error.RewriteError.TheVariants as error
 use Rattle.node_store.specs.Has.{AreOfNode, Has, Holds, StandsForBatchesAt}

@@ -33,7 +33,7 @@ use Rattle.rm_replay.specs.Actor.AnswerLemmas.{of_each}
 use Rattle.rm_replay.specs.Actor.Comes.{ComesOut, ComesOutAs}
 use Rattle.rm_replay.specs.declared.actor.actor.Came.{Came}
 use Rattle.rm_replay.specs.Actor.Outcomes.{answer_told, ends_by_disk, is_disk, is_disk_outcome, refusal_told}
-use Rattle.rm_report.specs.declared.line.Outcome.{Outcome as Outcomes}
+use Rattle.rm_script.specs.declared.report.line.Outcome.{Outcome as Outcomes}
 use Rattle.rm_replay.specs.Actor.Stands.{Acts, Stands, StandsBy, kept_of}
 use Rattle.rm_replay.specs.Actor.Steps.{answer_of, clock_after, clock_of, clocked}
 use Rattle.rm_replay.proofs.ActorLemmas.ActLemmas.{EndsThere, actored, acts, clock_is, sleeps_down}

@@ -8,7 +8,7 @@ use Rattle.std.proofs.lemmas.Option.{slice_get-get_or}
 use Rattle.rm_base.specs.Numbered.{numbered}
 use Rattle.rm_base.specs.NumberSetLemmas.{lt-or-le}
 use Rattle.rm_sides.specs.Destination.Messages.{Item, item_at, payload_in}
-use Rattle.rm_report.specs.declared.summary.Place.{Place}
+use Rattle.rm_script.specs.declared.report.summary.Place.{Place}
 use Rattle.rm_replay.specs.Summary.Summary.{items_text, there_text}
 
 -- the item with number k + 1 stands at place k

@@ -19,7 +19,7 @@ use Rattle.record_batch.specs.Sequences.Fits.{is_outgoing_side}
 use Rattle.node_tables.specs.Kept.{no_maker}
 use Rattle.node_tables.specs.Laws.{IncomingIsAsRecorded, IsAsRecorded, OutgoingIsAsRecorded, is_end, is_shut}
 use Rattle.node_tables.specs.Reads.{incoming_in, incoming_of, outgoing_in, outgoing_of}
-use Rattle.rm_report.specs.Report.{consumed_text, in_text, out_text}
+use Rattle.rm_script.specs.Report.Report.{consumed_text, in_text, out_text}
 use Rattle.rm_replay.specs.Summary.Summary.{in_phase, incoming_text, items_text, outgoing_text, place}
 use Rattle.rm_replay.specs.Summary.Summary.{sequence_text, sequences_text}
 

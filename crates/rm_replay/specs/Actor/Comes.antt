@@ -4,8 +4,8 @@ use Rattle.rm_base.specs.declared.failures.Memory.{Memory}
 use Rattle.record_batch.specs.Sequences.Words.{Text}
 use Rattle.rm_node.specs.declared.packets.Out.{Out}
 use Rattle.rm_node.specs.Ends.{Ended, Handed, Refused, Wanted, Broke, WasDown}
-use Rattle.rm_report.specs.declared.line.Outcome.{Outcome}
-use Rattle.rm_report.specs.declared.line.Outcome.TheVariants as told
+use Rattle.rm_script.specs.declared.report.line.Outcome.{Outcome}
+use Rattle.rm_script.specs.declared.report.line.Outcome.TheVariants as told
 use Rattle.rm_replay.specs.declared.actor.actor.Came.{Came}
 use Rattle.rm_replay.specs.Actor.Outcomes.{answer_told, refusal_told}
 

@@ -10,9 +10,9 @@ use Rattle.rm_protocol.specs.Calls.{Cause, Outcome as Comes, NoSequence, WrongSi
 use Rattle.rm_protocol.specs.Calls.{WindowFull, NodeFull, Rollover, TooManySequences, StoreFull, PastInbox, Done}
 use Rattle.rm_protocol.specs.Calls.{Refused, Judged}
 use Rattle.rm_protocol.specs.Node.{CallOutcome, Answered, DiskFault, IsDown}
-use Rattle.rm_report.specs.declared.line.Outcome.{Outcome}
-use Rattle.rm_report.specs.declared.line.Outcome.TheVariants as told
-use Rattle.rm_report.specs.declared.line.Reason.TheVariants as reason
+use Rattle.rm_script.specs.declared.report.line.Outcome.{Outcome}
+use Rattle.rm_script.specs.declared.report.line.Outcome.TheVariants as told
+use Rattle.rm_script.specs.declared.report.line.Reason.TheVariants as reason
 
 -- a refusal: that there is no such sequence has an outcome of its own
 abbrev pub refusal_told : Cause → Outcome

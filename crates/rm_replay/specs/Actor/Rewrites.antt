@@ -7,7 +7,7 @@ use Rattle.rm_disk.specs.Told.{Told}
 use Rattle.rm_protocol.specs.Compact.{compact_outcome, compacted}
 use Rattle.rm_protocol.specs.Node.{Node}
 use Rattle.rm_protocol.specs.Terms.{Terms}
-use Rattle.rm_report.specs.declared.line.Outcome.{Outcome}
+use Rattle.rm_script.specs.declared.report.line.Outcome.{Outcome}
 use Rattle.node_laws.specs.OwnTerms.{AreOwn}
 use Rattle.rm_replay.specs.Actor.Actored.{Actored}
 use Rattle.rm_replay.specs.Actor.Outcomes.{call_told, ends_by_disk}

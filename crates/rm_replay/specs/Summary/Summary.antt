@@ -10,8 +10,8 @@ use Rattle.record_batch.specs.Sequences.Sources.{accepted_count, acked, phase}
 use Rattle.record_batch.specs.Sequences.Destinations.{behaviour, cursor, discarded, held, inbox, is_ended}
 use Rattle.record_batch.specs.Sequences.Destinations.{is_over}
 use Rattle.record_batch.specs.Sequences.Fits.{is_outgoing_side}
-use Rattle.rm_report.specs.Report.{consumed_text, out_text, in_text, item_text}
-use Rattle.rm_report.specs.declared.summary.Place.{Place}
+use Rattle.rm_script.specs.Report.Report.{consumed_text, out_text, in_text, item_text}
+use Rattle.rm_script.specs.declared.report.summary.Place.{Place}
 
 -- the phase of an incoming sequence at a moment
 abbrev pub in_phase : List Fact → ℕ → ℕ → InPhase

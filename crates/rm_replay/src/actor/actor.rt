@@ -6,7 +6,7 @@ ghost use Rattle.rm_replay.specs.Actor.Steps.{clock_after};
 use node_tables::Tables;
 use rm_base::{Behaviour, Blob};
 use rm_node::{Call, Node, Outs};
-use rm_report::Outcome;
+use rm_script::report::Outcome;
 use std::alloc::Global;
 use std::marker::Model;
 

@@ -8,7 +8,7 @@ use crate::actor::outcome::told_alone;
 use node_store::laws::a_journal_is_rewritten_as_the_protocol_says;
 use rm_base::Memory;
 use rm_disk::CrashDisk;
-use rm_report::Outcome;
+use rm_script::report::Outcome;
 
 impl Actor {
     /// Writes the journal of the node anew, so that it has what its records say in short. Nothing leaves the node.

@@ -11,7 +11,7 @@ use node_laws::answers::Cause;
 use rm_base::Memory;
 use rm_message::FaultKind;
 use rm_node::{NodeError, Outs, Reaction};
-use rm_report::{Outcome, Reason};
+use rm_script::report::{Outcome, Reason};
 use std::alloc::Global;
 
 /// Of a call.

@@ -3,7 +3,7 @@ ghost use Rattle.std.specs.Prelude.{◌≡◌, ◌<◌, ◌≤◌, ◌++◌, [],
 ghost use Rattle.std.specs.Option.{option_copied};
 ghost use Rattle.rm_sides.specs.Destination.Incoming.{discarded, held, inbox, phase_of};
 ghost use Rattle.rm_sides.specs.Destination.Messages.{ranges_onto};
-ghost use Rattle.rm_report.specs.Report.{consumed_text, in_text, out_text};
+ghost use Rattle.rm_script.specs.Report.Report.{consumed_text, in_text, out_text};
 ghost use Rattle.rm_sides.specs.Source.Outgoing.{accepted_count};
 ghost use Rattle.record_batch.specs.Sequences.Makers.{makers};
 ghost use Rattle.rm_replay.specs.Summary.Summary.{items_text, node_text, sequence_text, there_text};
@@ -12,7 +12,7 @@ use node_tables::Tables;
 use node_tables::laws::{an_incoming_sequence_is_as_recorded, an_outgoing_sequence_is_as_recorded};
 use rm_base::{Blob, Memory, Payload};
 use rm_sides::destination::Incoming;
-use rm_report::{Place, push_consumed, push_in, push_item, push_out};
+use rm_script::report::{Place, push_consumed, push_in, push_item, push_out};
 use rm_sides::source::Outgoing;
 
 /// Appends what the node with a number knows of each of its sequences, at a moment.

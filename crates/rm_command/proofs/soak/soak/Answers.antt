@@ -1,6 +1,6 @@
 use Rattle.std.proofs.Common.{inl, inr, refl}
 use Rattle.rm_script.specs.Script.{lines_of}
-use Rattle.rm_soak.specs.Soak.{soak_script}
+use Rattle.rm_script.specs.Soak.Soak.{soak_script}
 use Rattle.rm_command.specs.Stage.{KeepsHeadlineIn, KeepsLooseIn}
 use Rattle.rm_command.proofs.SoakLemmas.{begun_not, kept_at, summary_ends}
 use Rattle.rm_command.proofs.soak.soak.Goals as goal

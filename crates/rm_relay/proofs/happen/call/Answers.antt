@@ -1,7 +1,7 @@
 use Rattle.std.proofs.Common.{false, inl, None, refl, subst, sym}
 use Rattle.std.proofs.lemmas.Result.{err_from_is_err_and}
 use Rattle.rm_replay.specs.Actor.Outcomes.{is_disk_outcome}
-use Rattle.rm_report.specs.declared.line.Outcome.{Outcome}
+use Rattle.rm_script.specs.declared.report.line.Outcome.{Outcome}
 use Rattle.rm_relay.specs.Word.World.{node}
 use Rattle.rm_relay.specs.Happening.{WereAsked, step_of}
 use Rattle.rm_relay.specs.Shows.{drives_of, scene_of}

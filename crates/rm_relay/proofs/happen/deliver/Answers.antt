@@ -4,8 +4,8 @@ use Rattle.std.proofs.lemmas.Result.{err_from_is_err_and}
 use Rattle.std.specs.Prelude.{Ok, Err}
 use Rattle.rm_base.specs.Numbered.{numbered}
 use Rattle.rm_replay.specs.Actor.Outcomes.{is_disk_outcome}
-use Rattle.rm_report.specs.declared.line.Outcome.{Outcome}
-use Rattle.rm_report.specs.declared.line.Outcome.TheVariants as told
+use Rattle.rm_script.specs.declared.report.line.Outcome.{Outcome}
+use Rattle.rm_script.specs.declared.report.line.Outcome.TheVariants as told
 use Rattle.rm_node.specs.Asked as asks
 use Rattle.rm_node.specs.Asked.{IsReceived}
 use Rattle.rm_node.specs.declared.call.Call.TheVariants as call

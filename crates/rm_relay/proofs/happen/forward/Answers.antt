@@ -2,7 +2,7 @@ use Rattle.std.proofs.Common.{◌≡◌, ◌∙◌, List, None, Some, ap, refl, 
 use Rattle.std.specs.Option.{option_copied}
 use Rattle.std.proofs.lemmas.Result.{err_from_is_err_and}
 use Rattle.record_batch.specs.Fact.{Fact}
-use Rattle.rm_report.specs.declared.line.Outcome.TheVariants as told
+use Rattle.rm_script.specs.declared.report.line.Outcome.TheVariants as told
 use Rattle.rm_protocol.specs.Node.{State, Up, records}
 use Rattle.rm_node.specs.Asked as asks
 use Rattle.rm_node.specs.declared.call.Call.TheVariants as call

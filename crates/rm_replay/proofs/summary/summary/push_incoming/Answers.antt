@@ -1,7 +1,7 @@
 use Rattle.std.proofs.Common.{◌≡◌, ◌++◌, [], length, OnOk, append_assoc, ap, subst, ◌∙◌}
 use Rattle.rm_sides.specs.Destination.Incoming.{discarded, held, inbox, phase_of}
 use Rattle.rm_sides.specs.Destination.Messages.{ranges_onto}
-use Rattle.rm_report.specs.Report.{consumed_text, in_text}
+use Rattle.rm_script.specs.Report.Report.{consumed_text, in_text}
 use Rattle.rm_replay.specs.Summary.Summary.{items_text}
 use Rattle.rm_replay.proofs.summary.summary.push_incoming.Goals as goal
 

@@ -1,0 +1,2 @@
+-- The definitions of `message_lines`.
+pub mod Lines

@@ -1,0 +1,3 @@
+-- The definitions of `report`.
+pub mod Exits
+pub mod Report

@@ -1,0 +1,3 @@
+-- The definitions of `soak`.
+pub mod Soak
+pub mod Summary

@@ -1,2 +1,0 @@
-pub mod Soak
-pub mod Summary
