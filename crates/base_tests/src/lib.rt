@@ -10,3 +10,20 @@ mod disk;
 mod journal;
 #[cfg(test)]
 mod ranges;
+
+#[cfg(test)]
+mod destination;
+#[cfg(test)]
+mod source;
+
+#[cfg(test)]
+mod keyed;
+#[cfg(test)]
+mod lists;
+#[cfg(test)]
+mod pending;
+mod plain;
+#[cfg(test)]
+mod twin;
+#[cfg(test)]
+mod waiting;

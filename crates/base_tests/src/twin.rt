@@ -26,7 +26,7 @@ impl Model for Twin {
 
     ghost Value = { ℕ };
 
-    ghost use Rattle.timer_tests.specs.Twin.{AreTwins};
+    ghost use Rattle.base_tests.specs.Twin.{AreTwins};
 
     ghost view = { λ t. length t.plain.items };
 

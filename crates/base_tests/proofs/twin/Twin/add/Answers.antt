@@ -1,6 +1,6 @@
-use Rattle.timer_tests.proofs.TwinLemmas.{twin_kept, twin_pushed, begun_keeps, begun_has}
+use Rattle.base_tests.proofs.TwinLemmas.{twin_kept, twin_pushed, begun_keeps, begun_has}
 use Rattle.timers.specs.Slots.Waits.{begun}
-use Rattle.timer_tests.proofs.twin.Twin.add.Goals as goal
+use Rattle.base_tests.proofs.twin.Twin.add.Goals as goal
 
 pub invariant_of-self : goal.invariant_of-self
 invariant_of-self c =

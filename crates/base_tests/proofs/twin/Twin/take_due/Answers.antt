@@ -1,7 +1,7 @@
 use Rattle.std.proofs.Common.{slice_get, refl, sym, subst}
 use Rattle.timers.specs.Slots.Waits.{with_emitted, due_at}
-use Rattle.timer_tests.proofs.TwinLemmas.{AllLive, live_at, live_removed, emitted_keeps, twin_kept, twin_pushed}
-use Rattle.timer_tests.proofs.twin.Twin.take_due.Goals as goal
+use Rattle.base_tests.proofs.TwinLemmas.{AllLive, live_at, live_removed, emitted_keeps, twin_kept, twin_pushed}
+use Rattle.base_tests.proofs.twin.Twin.take_due.Goals as goal
 
 pub invariant_of-self-in-Some : goal.invariant_of-self-in-Some
 invariant_of-self-in-Some c =

@@ -1,7 +1,7 @@
 use Rattle.std.proofs.Common.{◌<◌, length, refl, sym, subst}
 use Rattle.timers.specs.Slots.Waits.{emitted, moved_last}
-use Rattle.timer_tests.proofs.TwinLemmas.{AllLive, live_of, live_at, live_removed, moved_keeps, twin_pushed}
-use Rattle.timer_tests.proofs.twin.Twin.sent.Goals as goal
+use Rattle.base_tests.proofs.TwinLemmas.{AllLive, live_of, live_at, live_removed, moved_keeps, twin_pushed}
+use Rattle.base_tests.proofs.twin.Twin.sent.Goals as goal
 
 pub sent-requires-clause-slot : goal.sent-requires-clause-slot
 sent-requires-clause-slot c =

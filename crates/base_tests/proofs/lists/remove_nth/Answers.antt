@@ -3,7 +3,7 @@ use Rattle.std.proofs.Common.{sym, ap, subst, ◌∙◌, arith, length-set}
 use Rattle.std.proofs.lemmas.Option.{slice_get_within, get_or_from_slice_get}
 use Rattle.timers.specs.declared.links.links.Item.{Item}
 use Rattle.timers.specs.Links.Items.{Contents, IsWhole, IsLive, list_at}
-use Rattle.timer_tests.proofs.lists.remove_nth.Goals as goal
+use Rattle.base_tests.proofs.lists.remove_nth.Goals as goal
 
 -- the item at a place stands between those before it and those behind it
 parts : (xs : List Item) (k : ℕ) (item : Item) → slice_get xs k ≡ Some item → xs ≡ take k xs ++ item ∷ drop (suc k) xs

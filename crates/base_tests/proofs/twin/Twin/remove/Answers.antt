@@ -1,7 +1,7 @@
 use Rattle.std.specs.Prelude.{All}
 use Rattle.std.proofs.Common.{rules, ◌≢◌, ◌<◌, length, sym, subst}
-use Rattle.timer_tests.proofs.TwinLemmas.{AllLive, live_of, live_at, live_removed, twin_without}
-use Rattle.timer_tests.proofs.twin.Twin.remove.Goals as goal
+use Rattle.base_tests.proofs.TwinLemmas.{AllLive, live_of, live_at, live_removed, twin_without}
+use Rattle.base_tests.proofs.twin.Twin.remove.Goals as goal
 
 pub remove-key-requires : goal.remove-key-requires
 remove-key-requires c =

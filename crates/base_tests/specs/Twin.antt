@@ -1,7 +1,7 @@
 -- Timers beside a plain program, each of whose entries is live in the timers.
 use Rattle.std.specs.Prelude.{◌≡◌, ℕ, ◌⊎◌, List, [], ◌∷◌, All}
 use Rattle.timers.specs.Slots.Waits.{Entry, Waiting, StandFor}
-use Rattle.timer_tests.specs.declared.plain.Plain.{Plain}
+use Rattle.base_tests.specs.declared.plain.Plain.{Plain}
 
 -- an entry of the list has the slot
 abbrev pub HasSlot : ℕ → List Entry → Type 0

@@ -9,8 +9,8 @@ use Rattle.timers.specs.Slots.Waits.{Entry, Waiting, StandFor, IsLive, at_slot, 
 use Rattle.timers.specs.Slots.Waits.{with_emitted, emitted}
 use Rattle.timers.specs.Slots.Laws.{LiveIsWaiting}
 use Rattle.timers.specs.declared.slots.timers.Key.{Key}
-use Rattle.timer_tests.specs.declared.plain.Plain.{Plain}
-use Rattle.timer_tests.specs.Twin.{HasSlot, AreTwins}
+use Rattle.base_tests.specs.declared.plain.Plain.{Plain}
+use Rattle.base_tests.specs.Twin.{HasSlot, AreTwins}
 
 -- where the slot's entry stands
 record SlotAt (slot : ℕ) (w : List Entry) : Type 0 where
