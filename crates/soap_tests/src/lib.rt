@@ -18,3 +18,21 @@ mod pieces;
 mod profile;
 #[cfg(test)]
 mod writer;
+
+#[cfg(test)]
+mod addressing;
+#[cfg(test)]
+mod elements;
+#[cfg(test)]
+mod values;
+
+#[cfg(test)]
+mod broken;
+#[cfg(test)]
+mod common;
+#[cfg(test)]
+mod forms;
+#[cfg(test)]
+mod secured;
+#[cfg(test)]
+mod written;
