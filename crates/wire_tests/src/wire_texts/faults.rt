@@ -1,5 +1,5 @@
 //! The faults that documents are answered with which are no message: where they go, and what they relate to.
-use crate::forms::{Document, Framed, envelope, is_written, written};
+use crate::wire_texts::forms::{Document, Framed, envelope, is_written, written};
 use message_reader::decode;
 use message_writer::fault_message;
 use rm_base::{Blob, Memory};

@@ -1,7 +1,7 @@
 //! The message examples of WS-ReliableMessaging 1.2 and its faults bound to SOAP 1.1 (section 4), as documents of SOAP
 //! 1.1 with the prefixes of that standard, and the examples of SOAP 1.1's note: what each is written as in either
 //! version.
-use crate::forms::{START11, START12, is_lifted, is_written, joined, kind_of};
+use crate::soap11_cases::forms::{START11, START12, is_lifted, is_written, joined, kind_of};
 use rm_base::{Blob, Memory};
 use rm_message::FaultKind;
 use std::alloc::Global;

@@ -1,5 +1,5 @@
 //! Messages whose envelopes come in pieces.
-use crate::forms::{PAYLOAD, rewritten, was_refused};
+use crate::wire_cases::forms::{PAYLOAD, rewritten, was_refused};
 use message_reader::{decode, decode_read};
 use rm_base::{Blob, Memory};
 use rm_message::{DecodeError, FaultKind, Message};

@@ -1,7 +1,7 @@
 //! The faults of all kinds in SOAP 1.1: as each is written there, and as it is read from there. The codes and subcodes
 //! are those of WS-ReliableMessaging 1.2, section 4, WS-Addressing 1.0 SOAP Binding, section 6, and WS-MakeConnection
 //! 1.1, section 4; the reasons are ours.
-use crate::forms::{START11, is_text, joined, lowered};
+use crate::soap11_cases::forms::{START11, is_text, joined, lowered};
 use rm_sides::ranges::Range;
 use message_writer::fault_message;
 use rm_base::{Blob, Ident, Memory, TextError, Uri};

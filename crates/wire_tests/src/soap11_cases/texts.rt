@@ -1,5 +1,5 @@
 //! The texts that messages are lifted and lowered to.
-use crate::forms::{is_lifted, is_text, lowered};
+use crate::soap11_cases::forms::{is_lifted, is_text, lowered};
 use message_reader::decode;
 use rm_base::Memory;
 use std::alloc::Global;

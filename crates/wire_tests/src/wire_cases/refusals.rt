@@ -1,5 +1,5 @@
 //! Documents of the greatest length, of one byte more, and those that break off.
-use crate::forms::{PAYLOAD, is_refused};
+use crate::wire_cases::forms::{PAYLOAD, is_refused};
 use rm_base::{Blob, Memory};
 use rm_message::FaultKind;
 use std::alloc::Global;

@@ -1,5 +1,5 @@
 //! Envelopes in the styles of several stacks, each with the message that it has.
-use crate::forms::is_read;
+use crate::wire_cases::forms::is_read;
 use rm_base::Memory;
 use std::alloc::Global;
 

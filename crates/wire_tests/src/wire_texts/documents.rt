@@ -1,5 +1,5 @@
 //! Whole documents in many styles, each with the message that it has.
-use crate::forms::{BARE, Document, is_read};
+use crate::wire_texts::forms::{BARE, Document, is_read};
 use rm_base::Memory;
 
 const DOCUMENTS: [Document; 12] = [

@@ -1,5 +1,5 @@
 //! Messages of SOAP 1.1 as they are read.
-use crate::forms::{START11, joined, kind_of};
+use crate::soap11_cases::forms::{START11, joined, kind_of};
 use rm_base::{Binding, Memory, Payload};
 use rm_message::elements::SeqHeader;
 use rm_message::{Body, FaultBody, FaultCode, FaultKind, Message};

@@ -1,5 +1,5 @@
 //! Messages in the form that is written, which are read and written as they came.
-use crate::forms::{Same, is_kept};
+use crate::wire_texts::forms::{Same, is_kept};
 use rm_base::Memory;
 
 const WRITTEN: [Same; 11] = [

@@ -1,5 +1,5 @@
 //! Blocks of many forms in the frame of an envelope, each with the message that it has.
-use crate::forms::{BARE, Framed, is_read_in_frame};
+use crate::wire_texts::forms::{BARE, Framed, is_read_in_frame};
 use rm_base::Memory;
 
 // Blocks of WS-Addressing, and those of others.

@@ -1,5 +1,5 @@
 //! The acknowledgement of the first message of a sequence, from its values to its text and back.
-use crate::forms::{START, written};
+use crate::wire_texts::forms::{START, written};
 use rm_sides::ranges::Range;
 use message_reader::decode;
 use rm_base::{Blob, Ident, Memory, TextError, Uri};
