@@ -5,8 +5,8 @@ ghost use Rattle.rm_disk.specs.Journal.Entries.{longest};
 
 use crate::disk::{has_bytes, put};
 use rm_base::Blob;
-use rm_disk::{CrashDisk, MemDisk};
 use rm_disk::journal::{Journal, JournalError};
+use rm_disk::{CrashDisk, MemDisk};
 use std::alloc::Global;
 use std::test::Fail;
 

@@ -1,9 +1,9 @@
 //! Timers whose keys are found by key: what is due, in which order, and what a beginning, a wish and an end do to that.
-use timers::keys::KeyTimers;
 use rm_base::Memory;
-use timers::slots::Key;
 use std::alloc::Global;
 use std::test::Fail;
+use timers::keys::KeyTimers;
+use timers::slots::Key;
 
 const REQUEST: Key = Key { seq: 1, number: 0 };
 

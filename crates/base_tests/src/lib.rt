@@ -5,17 +5,11 @@
 #[cfg(test)]
 mod base;
 #[cfg(test)]
+mod destination;
+#[cfg(test)]
 mod disk;
 #[cfg(test)]
 mod journal;
-#[cfg(test)]
-mod ranges;
-
-#[cfg(test)]
-mod destination;
-#[cfg(test)]
-mod source;
-
 #[cfg(test)]
 mod keyed;
 #[cfg(test)]
@@ -23,6 +17,10 @@ mod lists;
 #[cfg(test)]
 mod pending;
 mod plain;
+#[cfg(test)]
+mod ranges;
+#[cfg(test)]
+mod source;
 #[cfg(test)]
 mod twin;
 #[cfg(test)]

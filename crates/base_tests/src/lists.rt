@@ -1,12 +1,12 @@
 //! Lists linked by index: the rows, and what a call costs.
 ghost use Rattle.std.specs.Prelude.{◌≡◌, ◌+◌, ◌<◌, ◌≤◌, length, IfOk};
 
-use timers::links::{Item, Links, Steps};
 use rm_base::Memory;
 use std::alloc::Global;
 use std::marker::Brand;
 use std::sync::ledger::{Blank, Ledger};
 use std::test::Fail;
+use timers::links::{Item, Links, Steps};
 
 // Removes the item at a place of a list.
 fn remove_nth<L: Ledger>(links: &mut Links, list: u32, k: u32, steps: &mut Steps<L>) -> Option<Item>

@@ -1,8 +1,8 @@
 //! Packets that wait for addresses: the limits, the order, and what room that was made is worth.
-use timers::pending::Pending;
 use rm_base::Uri;
 use std::alloc::Global;
 use std::test::Fail;
+use timers::pending::Pending;
 
 fn uri(alloc: Global, text: &str) -> Result<Uri, Fail> {
     Ok(Uri::from_slice(alloc, text.as_bytes())?)

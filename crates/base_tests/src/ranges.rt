@@ -1,6 +1,6 @@
 //! Tests of ack_ranges.
-use rm_sides::ranges::RangeSet;
 use rm_base::{MAX_NUMBER, Memory};
+use rm_sides::ranges::RangeSet;
 use std::alloc::Global;
 use std::test::Fail;
 

@@ -1,7 +1,7 @@
 //! Tests of rm_source. What a test does stands in a helper that answers a plain value, since a test with many steps is
 //! slow to prove.
-use rm_sides::ranges::{Range, RangeSet};
 use rm_base::{Blob, MAX_NUMBER, Memory};
+use rm_sides::ranges::{Range, RangeSet};
 use rm_sides::source::{OutPhase, Outgoing, SourceError};
 use std::alloc::Global;
 use std::test::Fail;

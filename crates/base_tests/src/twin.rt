@@ -3,9 +3,9 @@ ghost use Rattle.std.specs.Prelude.{◌≡◌, ◌≢◌, ◌<◌, ◌≤◌, Is
 
 use crate::plain::{Plain, delay, place_of_nth};
 use rm_base::Memory;
-use timers::slots::{Key, Timers, live_is_waiting};
 use std::alloc::Global;
 use std::marker::Model;
+use timers::slots::{Key, Timers, live_is_waiting};
 
 // Whether no entry has the slot.
 fn are_apart(plain: &Vec<Plain>, slot: u32) -> bool

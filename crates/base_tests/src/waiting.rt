@@ -4,9 +4,9 @@ use crate::twin::Twin;
 use rand_core::utils::NextWord;
 use rand_pcg::Pcg32;
 use rm_base::Memory;
-use timers::slots::{Key, Timers};
 use std::alloc::Global;
 use std::test::Fail;
+use timers::slots::{Key, Timers};
 
 const FIRST: Key = Key { seq: 1, number: 1 };
 

@@ -6,20 +6,18 @@ mod file;
 #[cfg(test)]
 mod link;
 #[cfg(test)]
-mod wire;
-
-#[cfg(test)]
 mod peer;
+#[cfg(test)]
+mod report;
 #[cfg(test)]
 mod requests;
 #[cfg(test)]
 mod responses;
 #[cfg(test)]
-mod written;
-
-#[cfg(test)]
-mod report;
-#[cfg(test)]
 mod script;
 #[cfg(test)]
 mod soak;
+#[cfg(test)]
+mod wire;
+#[cfg(test)]
+mod written;

@@ -1,6 +1,6 @@
 //! Bytes over a connection of the system, and packets posted over one in memory.
-use rm_base::{Blob, MemConn, Memory, Numbers, Sink, Source, Uri};
 use http_endpoint::link::{Fate, Link, MemLink, TcpLink, post};
+use rm_base::{Blob, MemConn, Memory, Numbers, Sink, Source, Uri};
 use std::alloc::Global;
 use std::test::Fail;
 

@@ -1,11 +1,11 @@
 //! Tests of rm_report.
-use rm_sides::ranges::Range;
 use rm_base::{Behaviour, Blob};
-use rm_sides::destination::InPhase;
 use rm_message::FaultKind;
 use rm_script::report::{
     Line, Outcome, Place, Reason, push_down, push_in, push_item, push_lines, push_out, push_ranges,
 };
+use rm_sides::destination::InPhase;
+use rm_sides::ranges::Range;
 use rm_sides::source::OutPhase;
 use std::test::Fail;
 

@@ -1,9 +1,9 @@
 //! A node that serves a peer that speaks SOAP 1.1 alone.
 use crate::machine::{MAKE, Machine, conn, prints};
+use http_endpoint::link::MemLink;
 use rm_base::{Blob, MemClock, Memory, Numbers, push_decimal};
 use rm_disk::MemDisk;
 use rm_disk::journal::{Journal, JournalError};
-use http_endpoint::link::MemLink;
 use std::alloc::Global;
 use std::test::Fail;
 

@@ -1,9 +1,9 @@
 //! What is released of a sequence that `serve` granted, by the last word of the command.
 use crate::machine::{MAKE, Machine, conn, prints};
 use crate::serving::CREATE;
+use http_endpoint::link::MemLink;
 use rm_base::{MemClock, Memory, Numbers};
 use rm_disk::MemDisk;
-use http_endpoint::link::MemLink;
 use std::alloc::Global;
 
 // The second message of the sequence, before which the first is missing.

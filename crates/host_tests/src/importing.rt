@@ -1,8 +1,8 @@
 //! `import` of bytes that are no node's.
 use crate::machine::{MAKE, Machine, imports, prints};
+use http_endpoint::link::MemLink;
 use rm_base::{MemClock, Memory, Numbers};
 use rm_disk::MemDisk;
-use http_endpoint::link::MemLink;
 use std::alloc::Global;
 
 // Journals of the layout before: one that is cut, one whose entry `ab` is no batch, and one of no entries. A journal of

@@ -12,9 +12,6 @@ mod importing;
 #[cfg(test)]
 mod machine;
 #[cfg(test)]
-mod serving;
-
-#[cfg(test)]
 mod peer;
 #[cfg(test)]
 mod posts;
@@ -22,5 +19,7 @@ mod posts;
 mod refusals;
 #[cfg(test)]
 mod serves;
+#[cfg(test)]
+mod serving;
 #[cfg(test)]
 mod watched;

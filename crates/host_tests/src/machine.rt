@@ -1,8 +1,8 @@
 //! A node over a disk and a link in memory, and the commands that it is given.
+use http_endpoint::link::MemLink;
 use rm_base::{Blob, Items, MemClock, MemConn, MemSink, MemSource, Memory, Numbers};
 use rm_disk::MemDisk;
 use rm_host::{Host, run};
-use http_endpoint::link::MemLink;
 use std::alloc::Global;
 
 /// A node over a disk and a link in memory.

@@ -1,8 +1,8 @@
 //! `serve` over connections in memory.
 use crate::machine::{MAKE, Machine, conn, prints};
+use http_endpoint::link::MemLink;
 use rm_base::{MemClock, Memory, Numbers};
 use rm_disk::MemDisk;
-use http_endpoint::link::MemLink;
 use std::alloc::Global;
 
 const SERVE: &[&[u8]] = &[b"serve", b"1", b"3", b"dfg"];

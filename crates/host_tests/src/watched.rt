@@ -1,6 +1,6 @@
 //! A link over connections in memory that keeps those which ended, so that a test sees what was written on them.
-use rm_base::{Failed, MemConn, Numbers};
 use http_endpoint::link::{Link, MemLink};
+use rm_base::{Failed, MemConn, Numbers};
 use std::alloc::Global;
 
 /// A link, and the connections that were hung up.

@@ -24,10 +24,10 @@ ghost use Rattle.message_reader.specs.Blocks.{
 };
 
 use rm_base::{Items, Memory};
-use rm_message::elements::{MESSAGING, header_name};
 use rm_message::Names;
-use soap_envelope::is_soap11;
+use rm_message::elements::{MESSAGING, header_name};
 use soap_document::profile::{Element, Name};
+use soap_envelope::is_soap11;
 use soap_values::{Flaw, find_value, is_named, is_true_mark, trim};
 use std::alloc::Global;
 use wsa_headers::{ADDRESSING, is_parameter};

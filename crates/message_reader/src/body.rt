@@ -26,8 +26,8 @@ use crate::fault11::{SequenceFault, read_fault11};
 use rm_base::{Binding, Memory, Payload};
 use rm_message::elements::{CONNECTION, ElementError, MESSAGING, read_lifecycle};
 use rm_message::{Body, FaultBody, actions};
-use soap_envelope::is_soap11;
 use soap_document::profile::{Element, Item, Parts};
+use soap_envelope::is_soap11;
 use soap_values::{Flaw, is_named};
 use std::alloc::Global;
 

@@ -11,8 +11,8 @@ use crate::read::read_message;
 use crate::refusal::{blind, refusal};
 use rm_base::Memory;
 use rm_message::{DecodeError, FaultKind, Message, Refusal};
-use soap_envelope::{Envelope, SOAP_SPACE, read_envelope_in};
 use soap_document::profile::EnvelopeError;
+use soap_envelope::{Envelope, SOAP_SPACE, read_envelope_in};
 use std::alloc::Global;
 
 /// The message that the bytes spell where SOAP has this namespace, or the refusal of the first kind that holds, with

@@ -24,8 +24,8 @@ use crate::fault::{Codes, blob_or_empty, find_first, if_readable, read_stripped}
 use rm_base::{Binding, Blob, Memory};
 use rm_message::elements::{CONNECTION, MESSAGING};
 use rm_message::{FaultBody, FaultCode};
-use soap_envelope::is_soap11;
 use soap_document::profile::{Element, Elements, Name};
+use soap_envelope::is_soap11;
 use soap_values::{Flaw, find_optional, find_single, is_named, read_qname, read_trimmed};
 use std::alloc::Global;
 use wsa_headers::ADDRESSING;

@@ -21,10 +21,12 @@ ghost use Rattle.message_reader.specs.Headers.{
 
 use crate::blocks::{find_block, find_blocks};
 use rm_base::{Binding, Ident, Items, Memory};
-use rm_message::elements::{AckBlock, CONNECTION, ElementError, Header, MESSAGING, SeqHeader, read_header};
+use rm_message::elements::{
+    AckBlock, CONNECTION, ElementError, Header, MESSAGING, SeqHeader, read_header,
+};
 use rm_message::{Acks, Idents, Names};
-use soap_envelope::is_soap11;
 use soap_document::profile::{Element, Name};
+use soap_envelope::is_soap11;
 use soap_values::{Flaw, find_value, read_qname};
 use std::alloc::Global;
 

@@ -28,8 +28,8 @@ use crate::headers::{
 use rm_base::{Binding, Memory, Payload};
 use rm_message::elements::{MESSAGING, SeqHeader};
 use rm_message::{Acks, Body, Idents, Message, Names, actions};
-use soap_envelope::Envelope;
 use soap_document::profile::{Element, Parts};
+use soap_envelope::Envelope;
 use soap_values::Flaw;
 use std::alloc::Global;
 use wsa_headers::{ADDRESSING, Addressing, AddressingError, read_address_of, read_addressing};

@@ -23,8 +23,8 @@ use crate::qname::{push_qname_declaration, qname};
 use rm_base::{Blob, Memory};
 use rm_message::elements::MESSAGING;
 use rm_message::{FaultBody, FaultCode};
-use soap_writer::nodes::{push_begin, push_close, push_start};
 use soap_document::profile::{Elements, Name};
+use soap_writer::nodes::{push_begin, push_close, push_start};
 use soap_writer::{push_bytes, push_text};
 use std::alloc::Global;
 

@@ -29,8 +29,8 @@ use crate::qname::{push_qname_declaration, qname};
 use crate::tag::Tag;
 use rm_base::{Blob, Memory};
 use rm_message::{FaultBody, FaultCode};
-use soap_writer::nodes::{push_begin, push_close, push_leaf, push_start};
 use soap_document::profile::{Element, Elements, Name};
+use soap_writer::nodes::{push_begin, push_close, push_leaf, push_start};
 use soap_writer::{push_bytes, push_text, write_element};
 use std::alloc::Global;
 

@@ -19,8 +19,8 @@ ghost use Rattle.message_writer.specs.Text11.{
 
 use rm_message::elements::{header_is_good, lifecycle_is_good};
 use soap_envelope::frame::laws::{closed_content_is_read_alike, frame_is_an_envelope};
-use soap_writer::nodes::laws::node_is_read_back;
 use soap_writer::laws::content_is_read_back;
+use soap_writer::nodes::laws::node_is_read_back;
 use wsa_headers::addressing_is_good;
 
 /// The text of a message that keeps the rules is an envelope: its header blocks are the trees of the message's blocks

@@ -4,8 +4,8 @@ ghost use Rattle.soap_writer.specs.Nodes.Node.{notes_text};
 ghost use Rattle.message_writer.specs.Text.{qname as qname_text, qname_notes};
 
 use rm_base::Memory;
-use soap_writer::nodes::push_declaration;
 use soap_document::profile::Name;
+use soap_writer::nodes::push_declaration;
 use soap_writer::push_bytes;
 use std::alloc::Global;
 

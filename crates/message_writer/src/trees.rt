@@ -15,10 +15,10 @@ ghost use Rattle.rm_message.specs.Elements.Outcome.{rm};
 ghost use Rattle.rm_message.specs.Elements.Texts.{r, range_node, nack_node, kind_nodes, final_nodes};
 ghost use Rattle.message_writer.specs.Faults.{ident_element, max_element, ack_element};
 
-use rm_sides::ranges::Range;
 use itoa::Buffer;
 use rm_base::{Bytes, Ident, Memory};
 use rm_message::elements::{AckBlock, AckKind, MESSAGING};
+use rm_sides::ranges::Range;
 use soap_document::profile::{Attr, Element, Item, Name, Shared};
 use std::alloc::Global;
 

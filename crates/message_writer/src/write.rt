@@ -22,9 +22,9 @@ use rm_message::elements::{
     AckBlock, SeqHeader, push_ack, push_ask, push_pending, push_sequence, write_lifecycle,
 };
 use rm_message::{Body, FaultBody, Message};
+use soap_document::profile::Name;
 use soap_envelope::frame::{begin_body, begin_envelope, end_envelope};
 use soap_writer::nodes::{push_attribute, push_begin};
-use soap_document::profile::Name;
 use soap_writer::push_bytes;
 use std::alloc::Global;
 use wsa_headers::write_addressing;

@@ -12,10 +12,10 @@ ghost use Rattle.tables_ahead.specs.Known.{all_records};
 use node_messages::{ack_message, is_anonymous};
 use node_tables::Maker;
 use receive_replies::{acks_to, block_of};
+use record_batch::sequences::issue;
 use rm_base::Memory;
 use rm_message::elements::AckBlock;
 use rm_message::{Acks, Message};
-use record_batch::sequences::issue;
 use std::alloc::Global;
 use tables_ahead::Known;
 

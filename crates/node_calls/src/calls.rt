@@ -24,8 +24,8 @@ use node_laws::laws::{own_terms_are_terms, there_are_own_terms};
 use node_tables::Tables;
 use rm_base::{Blob, Memory, Uri};
 use rm_protocol::laws::each_record_may_come_next;
-use timers::slots::Key;
 use std::alloc::Global;
+use timers::slots::Key;
 
 // What the records of the tables give to a call, and that those that it adds may come next.
 fn serving(tables: &Tables, place: u64)

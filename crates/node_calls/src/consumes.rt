@@ -16,8 +16,8 @@ ghost use Rattle.node_calls.specs.Causes.{inbox_cause};
 ghost use Rattle.node_calls.specs.Comes.{consumed as consumed_of};
 
 use crate::answers::added;
-use node_laws::sizes::laws::a_batch_is_its_parts;
 use node_laws::answers::{Answer, Cause, if_room, refused};
+use node_laws::sizes::laws::a_batch_is_its_parts;
 use node_tables::laws::an_incoming_sequence_is_as_recorded;
 use node_tables::{Maker, Tables};
 use record_batch::Record;

@@ -32,9 +32,9 @@ use record_batch::OwnOffer;
 use rm_base::{Blob, Ident, Memory};
 use rm_message::Message;
 use rm_sides::source::OutPhase;
-use timers::slots::Key;
 use std::alloc::Global;
 use tables_ahead::Known;
+use timers::slots::Key;
 use wsa_headers::Epr;
 
 // The payload of a message of an outgoing sequence, where only ends of incoming sequences are ahead.

@@ -20,10 +20,10 @@ use crate::reads::is_over;
 use node_laws::answers::{Answer, Cause, refused};
 use node_tables::laws::an_incoming_sequence_is_as_recorded;
 use node_tables::{Maker, Tables};
-use rm_base::{Memory, Numbers};
-use rm_message::elements::{AckBlock, AckKind};
-use rm_message::Message;
 use record_batch::sequences::issue;
+use rm_base::{Memory, Numbers};
+use rm_message::Message;
+use rm_message::elements::{AckBlock, AckKind};
 use std::alloc::Global;
 use tables_ahead::Known;
 

@@ -20,8 +20,8 @@ ghost use Rattle.node_calls.specs.Records.{IsServing};
 ghost use Rattle.tables_ahead.specs.Known.{all_records};
 
 use crate::answers::added;
-use node_laws::sizes::laws::a_batch_is_its_parts;
 use node_laws::answers::{Answer, Cause, Wish, if_room, refused};
+use node_laws::sizes::laws::a_batch_is_its_parts;
 use node_messages::{create_request, plain_endpoint};
 use node_tables::{Maker, Tables};
 use receive_replies::home;

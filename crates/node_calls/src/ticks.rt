@@ -20,9 +20,9 @@ use node_tables::Tables;
 use record_batch::Record;
 use rm_base::{Cause, Memory};
 use rm_sides::destination::is_past;
-use timers::slots::Key;
 use std::alloc::Global;
 use tables_ahead::Known;
+use timers::slots::Key;
 
 // Whether the time of a sequence has run out, and no record ends it yet.
 fn is_due(ahead: &Known<'_>, seq: u32, now: u64) -> bool

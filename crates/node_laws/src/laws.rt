@@ -8,10 +8,10 @@ ghost use Rattle.node_laws.specs.Keeps.{EachCallKeeps, EachIsByTheRules, EachIsR
 ghost use Rattle.node_laws.specs.OwnTerms.{EndsOnce, OwnAreTerms, ThereAreOwnTerms};
 ghost use Rattle.node_laws.specs.Records.{HasRoomForKeys, MadeIsKept};
 
-use rm_sides::ranges::range_is_added;
-use rm_protocol::laws::{each_record_may_come_next, what_is_acknowledged_was_accepted};
-use rm_wire::laws::{a_fault_keeps_the_rules, what_is_written_is_read};
 use record_batch::sequences::laws::a_byte_for_each_number;
+use rm_protocol::laws::{each_record_may_come_next, what_is_acknowledged_was_accepted};
+use rm_sides::ranges::range_is_added;
+use rm_wire::laws::{a_fault_keeps_the_rules, what_is_written_is_read};
 use soap_document::laws::{content_makes_a_document, document_is_read};
 
 /// Each call of a node keeps its records those of a node: what `mount` accepts before a call it accepts after it.

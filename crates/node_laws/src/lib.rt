@@ -2,10 +2,7 @@
 //! protocol, `rm_protocol`, and on whole messages, `rm_wire`. The layers above cite the definitions and the laws.
 #![tactic(auto)]
 
-pub mod laws;
-
-pub mod snapshots;
-
 pub mod answers;
-
+pub mod laws;
 pub mod sizes;
+pub mod snapshots;

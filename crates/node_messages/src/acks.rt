@@ -10,10 +10,10 @@ ghost use Rattle.rm_protocol.specs.Said.{with_blocks as with_blocks_of};
 
 use crate::name::Name;
 use crate::plain::plain;
-use rm_sides::ranges::{Range, RangeSet};
 use rm_base::{Ident, Items, Memory};
 use rm_message::elements::{AckBlock, AckKind};
 use rm_message::{Acks, Body, Idents, Message};
+use rm_sides::ranges::{Range, RangeSet};
 use std::alloc::Global;
 use wsa_headers::Epr;
 

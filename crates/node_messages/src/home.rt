@@ -9,8 +9,8 @@ ghost use Rattle.node_messages.specs.Homes.{IsHome};
 use crate::address::polled_bytes;
 use crate::endpoint::{anonymous, plain_endpoint};
 use record_batch::Via;
-use rm_base::{Memory, Uri, uri_of};
 use record_batch::sequences::issue;
+use rm_base::{Memory, Uri, uri_of};
 use std::alloc::Global;
 use wsa_headers::Epr;
 

@@ -14,11 +14,11 @@ use crate::endpoint::plain_endpoint;
 use crate::home::Home;
 use crate::name::Name;
 use crate::plain::plain;
+use record_batch::sequences::issue;
 use record_batch::{OwnOffer, Via};
 use rm_base::{Ident, Lapse, Memory, Uri, uri_of};
 use rm_message::elements::{CreateSequence, Finish, Lifecycle, MakeConnection, Offer};
 use rm_message::{Body, Message, actions};
-use record_batch::sequences::issue;
 use std::alloc::Global;
 use wsa_headers::Epr;
 

@@ -15,10 +15,10 @@ use crate::endpoint::{plain_endpoint, reply_endpoint};
 use crate::home::Home;
 use crate::name::Name;
 use crate::plain::plain;
+use record_batch::sequences::issue;
 use rm_base::{Behaviour, Ident, Lapse, Memory, Uri, copy_optional_uri};
 use rm_message::elements::{AckBlock, CreateResponse, Lifecycle};
 use rm_message::{Acks, Body, Message};
-use record_batch::sequences::issue;
 use std::alloc::Global;
 use wsa_headers::{Addressing, Epr};
 

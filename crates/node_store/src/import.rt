@@ -18,8 +18,8 @@ ghost use Rattle.node_store.specs.declared.error.ImportError.TheVariants.{NotAJo
 use crate::error::{ImportError, MountError};
 use crate::mount::serve;
 use node_tables::Tables;
-use rm_disk::{Disk, MemDisk};
 use rm_disk::journal::{Journal, JournalError};
+use rm_disk::{Disk, MemDisk};
 use std::alloc::Global;
 
 /// The journal that a disk is made, and the tables of its records. The bytes are tested before the first device call.

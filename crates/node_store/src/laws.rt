@@ -17,8 +17,8 @@ ghost use Rattle.node_store.specs.Rewrites.{IsRewrittenAs, fresh_batches, rewrit
 ghost use Rattle.node_store.specs.Stored.{Stored, with_batch};
 
 use node_laws::sizes::laws::a_batch_that_fits_is_read_back;
-use record_batch::laws::what_is_written_is_read;
 use node_laws::snapshots::laws::a_snapshot_is_kept;
+use record_batch::laws::what_is_written_is_read;
 
 /// Bytes stand for one list of batches, where each is read back from its text.
 pub fn bytes_stand_for_one_list_of_batches()

@@ -22,9 +22,9 @@ use crate::replay::replay;
 use crate::windows::{TOO_MANY_BYTES, keep_windows, may_serve};
 use node_tables::Tables;
 use record_batch::laws::what_is_written_is_read;
+use record_batch::sequences::laws::a_byte_for_each_number;
 use rm_disk::Disk;
 use rm_disk::journal::{Journal, JournalError};
-use record_batch::sequences::laws::a_byte_for_each_number;
 use std::alloc::Global;
 
 /// The journal of a node on a disk, and the tables of its records.

@@ -31,15 +31,15 @@ use crate::format::format;
 use crate::import::import;
 use crate::mount::find;
 use crate::rewrite::rewrite;
-use node_laws::sizes::laws::a_batch_is_its_parts;
 use node_laws::laws::a_made_node_has_its_records;
+use node_laws::sizes::laws::a_batch_is_its_parts;
 use node_tables::Tables;
 use record_batch::Record;
 use record_batch::laws::what_is_written_is_read;
+use record_batch::sequences::laws::a_byte_for_each_number;
 use rm_base::Uri;
 use rm_disk::Disk;
 use rm_disk::journal::Journal;
-use record_batch::sequences::laws::a_byte_for_each_number;
 use std::alloc::Global;
 use std::marker::Model;
 

@@ -14,9 +14,9 @@ ghost use Rattle.node_store.specs.Stored.{IsServing};
 use node_tables::Tables;
 use node_tables::laws::{an_incoming_sequence_is_as_recorded, an_outgoing_sequence_is_as_recorded};
 use rm_base::limits::{MOST_SEQUENCES, MOST_UNACKED, WINDOW};
+use rm_disk::journal::Journal;
 use rm_sides::destination::Incoming;
 use rm_sides::destination::laws::front_is_reached;
-use rm_disk::journal::Journal;
 
 /// No memory holds a journal of so many bytes.
 pub(crate) const TOO_MANY_BYTES: u64 = 1 << 61;

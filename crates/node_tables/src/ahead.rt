@@ -12,9 +12,9 @@ ghost use Rattle.node_tables.specs.Kept.{is_timed_record, tolds};
 ghost use Rattle.node_tables.specs.Room.{AreBegun, all_spares, all_timed, spare_of, spares_ahead, starts, starts_of};
 
 use crate::note::Coming;
+use crate::row::{Row, Start};
 use record_batch::Record;
 use rm_base::Memory;
-use crate::row::{Row, Start};
 use std::alloc::Global;
 
 /// How the first sequence begins that a record makes.

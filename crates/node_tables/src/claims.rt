@@ -6,9 +6,9 @@ ghost use Rattle.node_tables.specs.Room.{AreBegun, AreClaimed, AreEnough, HasPla
 
 use crate::note::{Coming, Named, Note, Origin};
 use crate::record::named_by;
+use crate::row::Row;
 use record_batch::Record;
 use rm_base::Memory;
-use crate::row::Row;
 
 /// Makes room for so many records in each list.
 pub(crate) fn make_room(

@@ -11,9 +11,9 @@ ghost use Rattle.node_tables.specs.Kept.{payload_of, received_in, records_of};
 ghost use Rattle.node_tables.specs.Kept.{tolds};
 
 use crate::note::Note;
+use crate::row::Row;
 use record_batch::{Record, copy_acked, copy_purged, copy_received};
 use rm_base::{Memory, Payload};
-use crate::row::Row;
 use std::alloc::Global;
 
 /// Where the message with a number stands. Messages mostly come by rising number, so the place where it is expected is

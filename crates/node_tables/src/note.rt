@@ -4,9 +4,9 @@ ghost use Rattle.record_batch.specs.Fact.{Fact, fact_of};
 ghost use Rattle.record_batch.specs.Sequences.Told.{Told};
 ghost use Rattle.node_tables.specs.Kept.{HasPlace, IsHeld, fact_at, is_passing};
 
-use rm_sides::ranges::RangeSet;
-use record_batch::Record;
 use crate::row::{Row, Start};
+use record_batch::Record;
+use rm_sides::ranges::RangeSet;
 
 /// A record as it is kept: the place of a record that is kept whole; the row, counted from 0, and the number there of a
 /// message that was accepted or received, and whether it was the first that was received there; the numbers that are

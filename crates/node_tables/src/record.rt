@@ -9,8 +9,8 @@ ghost use Rattle.record_batch.specs.Sequences.Words.{last_or};
 ghost use Rattle.node_tables.specs.Kept.{names_for, origins_for};
 
 use crate::note::{Named, Origin};
-use record_batch::{OwnOffer, Record};
 use record_batch::sequences::made_by;
+use record_batch::{OwnOffer, Record};
 
 /// The sequence that a record names, and 0 where it names none.
 pub(crate) fn named_by(given: &Record) -> u32

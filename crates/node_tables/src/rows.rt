@@ -12,11 +12,11 @@ ghost use Rattle.node_tables.specs.Reads.{waiting};
 ghost use Rattle.node_tables.specs.Room.{has_room, spare_at, spares, spent_at};
 
 use crate::record::named_by;
-use rm_sides::ranges::RangeSet;
+use crate::row::Row;
 use record_batch::Record;
 use rm_base::{Blob, Memory, Payload};
+use rm_sides::ranges::RangeSet;
 use rm_sides::source::OutPhase;
-use crate::row::Row;
 
 /// How many messages a row accepted.
 fn accepted_of(row: &Row) -> u64

@@ -16,10 +16,12 @@ ghost use Rattle.node_tables.specs.Shorter.{HasRow, IsFree, IsOwn, IsProperNote,
 ghost use Rattle.node_tables.specs.Shorter.{fact_ahead, fact_instead, marked, passed_in, some_ranges};
 
 use crate::note::Note;
-use rm_sides::ranges::{Range, RangeSet, ends_are_right, union_has_both, union_with_nothing_is_the_same};
+use crate::row::Row;
 use record_batch::Record;
 use rm_base::{Memory, numbered};
-use crate::row::Row;
+use rm_sides::ranges::{
+    Range, RangeSet, ends_are_right, union_has_both, union_with_nothing_is_the_same,
+};
 use std::alloc::Global;
 
 /// The greatest number such that 1 to it are acknowledged of a sequence.

@@ -31,15 +31,15 @@ use crate::find::{find_accept, find_address, find_granted, find_ident, find_name
 use crate::maker::{Maker, maker_at};
 use crate::note::{Coming, Named, Note, Origin, passed_note};
 use crate::record::{drawn_after, name, named_by, number_after, offer_fits, trace};
+use crate::row::Row;
 use crate::rows::{accept_at, change, forget_all, learn_at, pass_at, receive_at, waiting_in};
 use crate::snapshot::shorter;
-use rm_sides::ranges::{RangeSet, ends_are_right, same_numbers_same_ranges, union_has_both};
+use record_batch::sequences::{issued_counter, made_by};
 use record_batch::{Record, Records};
 use rm_base::{Blob, Ident, Memory, Payload, Uri, numbered};
 use rm_sides::destination::Incoming;
+use rm_sides::ranges::{RangeSet, ends_are_right, same_numbers_same_ranges, union_has_both};
 use rm_sides::source::{OutPhase, Outgoing};
-use crate::row::Row;
-use record_batch::sequences::{issued_counter, made_by};
 use std::alloc::Global;
 use std::marker::Model;
 use std::mem;

@@ -2,9 +2,9 @@
 use crate::given::{Given, text_of};
 use crate::peer::{NODE_1, Peer, at_second, is_handed};
 use crate::texts::{FIRST_OF_2, envelope};
-use rm_sides::destination::InPhase;
 use rm_message::FaultKind;
 use rm_node::NodeError;
+use rm_sides::destination::InPhase;
 use std::alloc::Global;
 use std::test::Fail;
 

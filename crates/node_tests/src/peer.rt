@@ -8,9 +8,9 @@ use node_laws::answers::Wish;
 use node_store::MountError;
 use record_batch::Via;
 use rm_base::{Behaviour, Blob, Lapse, Uri};
-use rm_sides::destination::InPhase;
 use rm_message::FaultKind;
 use rm_node::{Call, Made, Node, NodeError, Out, Outs, Reaction, Sent};
+use rm_sides::destination::InPhase;
 use rm_sides::source::OutPhase;
 use std::alloc::Global;
 

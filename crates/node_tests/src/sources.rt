@@ -1,9 +1,9 @@
 //! Each phase of an outgoing sequence, and what comes for it then.
 use crate::given::{Given, text_of};
 use crate::peer::{Peer, at_first};
-use rm_sides::destination::InPhase;
 use rm_message::FaultKind;
 use rm_node::NodeError;
+use rm_sides::destination::InPhase;
 use rm_sides::source::OutPhase;
 use std::alloc::Global;
 use std::test::Fail;

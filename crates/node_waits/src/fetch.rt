@@ -14,12 +14,12 @@ ghost use Rattle.rm_protocol.specs.Said.{with_blocks as with_blocks_of};
 ghost use Rattle.node_waits.specs.Fetched.{fetched_seen, without_back};
 
 use crate::copy::copy_message;
-use timers::pending::Pending;
 use node_messages::{is_anonymous, with_blocks};
 use rm_base::{Memory, Uri, copy_optional_uri};
 use rm_message::elements::{Lifecycle, copy_block};
 use rm_message::{Acks, Body, Message};
 use std::alloc::Global;
+use timers::pending::Pending;
 
 /// A message that waited for an address, as the reply to the MakeConnection that asked for it.
 #[derive(Debug, Drop)]

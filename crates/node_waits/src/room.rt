@@ -6,11 +6,11 @@ ghost use Rattle.rm_protocol.specs.Addresses.{place_of as place_for};
 ghost use Rattle.node_waits.specs.Held.{AreHeld, addresses_of, messages_of};
 
 use crate::copy::copy_message;
-use timers::pending::Pending;
 use node_messages::{Place, place_of};
 use rm_base::{Memory, Uri};
 use rm_message::Message;
 use std::alloc::Global;
+use timers::pending::Pending;
 
 /// A message that is to wait, with the address that it waits for.
 #[derive(Debug, Drop)]

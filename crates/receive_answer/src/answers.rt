@@ -19,16 +19,16 @@ ghost use Rattle.tables_ahead.specs.Known.{all_records};
 
 use crate::fault::{fault_answer, judged, store_full};
 use crate::nacked::urging;
+use crate::records::put_rows;
 use node_laws::answers::{Answer, Outcome, has_room};
 use node_laws::laws::{own_terms_are_terms, there_are_own_terms};
 use node_tables::Tables;
-use crate::records::put_rows;
 use receive_replies::said;
 use receive_replies::verdict::{early_verdict, target};
+use record_batch::sequences::laws::a_byte_for_each_number;
 use rm_base::{Behaviour, Memory};
 use rm_message::{Message, Refusal};
 use rm_protocol::laws::each_record_may_come_next;
-use record_batch::sequences::laws::a_byte_for_each_number;
 use std::alloc::Global;
 use tables_ahead::Known;
 

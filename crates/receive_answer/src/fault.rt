@@ -13,8 +13,8 @@ ghost use Rattle.rm_message.specs.declared.refusal.FaultKind.TheVariants.{StoreF
 ghost use Rattle.node_laws.specs.Answers.Answers.{seen};
 ghost use Rattle.receive_answer.specs.Untold.{judged_as};
 
-use node_laws::answers::{Answer, Outcome, no_moves};
 use message_writer::fault_message;
+use node_laws::answers::{Answer, Outcome, no_moves};
 use node_messages::fault_endpoint;
 use receive_replies::fault_block;
 use receive_replies::verdict::target;

@@ -8,10 +8,10 @@ ghost use Rattle.receive_answer.specs.Untold.{urging as urging_of};
 use node_laws::answers::Moves;
 use node_tables::Tables;
 use rm_base::Memory;
-use rm_message::elements::{AckBlock, AckKind};
 use rm_message::Message;
-use timers::slots::Key;
+use rm_message::elements::{AckBlock, AckKind};
 use std::alloc::Global;
+use timers::slots::Key;
 
 // The numbers that a block says are missing.
 fn nacked_of(kind: &AckKind) -> &[u64]

@@ -10,8 +10,8 @@ ghost use Rattle.rm_protocol.specs.Calls.{
 ghost use Rattle.rm_protocol.specs.Messages.{block_of as block_for};
 ghost use Rattle.tables_ahead.specs.Known.{all_records};
 
-use node_messages::ack_block;
 use crate::verdict::is_invalid;
+use node_messages::ack_block;
 use rm_base::{Ident, Memory};
 use rm_message::elements::{AckBlock, SeqHeader, copy_block};
 use rm_message::{FaultKind, Message};

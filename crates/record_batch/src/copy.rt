@@ -3,8 +3,8 @@ ghost use Rattle.std.specs.Prelude.{◌≡◌, IfOk};
 ghost use Rattle.record_batch.specs.Fact.{Acked, Created, Creating, Fact, Purged, Received, fact_of};
 
 use crate::record::{OwnOffer, PeerOffer, Record, Via};
-use rm_sides::ranges::RangeSet;
 use rm_base::{Binding, Bindings, Ident, Lapse, Memory, Payload, Uri};
+use rm_sides::ranges::RangeSet;
 use std::alloc::Global;
 use wsa_headers::{Epr, copy_reference};
 

@@ -20,5 +20,4 @@ pub use record::{OwnOffer, PeerOffer, Record, Records, Via};
 pub use write::write_batch;
 
 pub mod sequences;
-
 pub mod snapshot;

@@ -30,11 +30,11 @@ ghost use Rattle.record_batch.specs.Parts.{
 };
 
 use crate::record::{OwnOffer, PeerOffer, Via};
-use rm_sides::ranges::{Range, RangeSet};
 use rm_base::{
     Behaviour, Binding, Bindings, Blob, Cause, Ident, Items, Lapse, MAX_NUMBER, Memory, Payload,
     Uri,
 };
+use rm_sides::ranges::{Range, RangeSet};
 use soap_document::laws::{document_is_read, document_is_utf8};
 use soap_document::profile::{Element, Elements, EnvelopeError, read_element, strip};
 use soap_values::{Flaw, read_ident, read_uri};

@@ -1,6 +1,6 @@
 //! What a node writes down.
-use rm_sides::ranges::RangeSet;
 use rm_base::{Behaviour, Blob, Cause, Ident, Items, Lapse, Payload, Uri};
+use rm_sides::ranges::RangeSet;
 use wsa_headers::Epr;
 
 /// How answers come back: to the node's own address, to its polled address, or on the connection, by the anonymous

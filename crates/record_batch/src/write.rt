@@ -44,8 +44,8 @@ use crate::writers::{
     behaviour_byte, cause_byte, put_accept, put_deadline, put_endpoint, put_lapse, put_own_offer,
     put_payload, put_peer_offer, put_ranges, put_text, put_u32, put_u64, via_byte,
 };
-use rm_sides::ranges::RangeSet;
 use rm_base::{Behaviour, Blob, Cause, Ident, Lapse, Memory, Payload, Uri};
+use rm_sides::ranges::RangeSet;
 use std::alloc::Global;
 use wsa_headers::Epr;
 

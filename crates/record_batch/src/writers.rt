@@ -27,8 +27,8 @@ ghost use Rattle.record_batch.specs.Writable.{
 };
 
 use crate::record::{OwnOffer, PeerOffer, Via};
-use rm_sides::ranges::{Range, RangeSet};
 use rm_base::{Behaviour, Binding, Blob, Cause, Lapse, Memory, Payload};
+use rm_sides::ranges::{Range, RangeSet};
 use soap_document::profile::Element;
 use soap_writer::write_element;
 use std::alloc::Global;

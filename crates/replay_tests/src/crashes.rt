@@ -3,9 +3,9 @@
 use crate::messages::IN_ORDER;
 use crate::stage::events_of;
 use rm_base::Memory;
+use rm_base::wire::{MemWire, Packet, Wire};
 use rm_disk::MemDisk;
 use rm_disk::journal::Journal;
-use rm_base::wire::{MemWire, Packet, Wire};
 use rm_replay::{Stage, run_script};
 use std::test::Fail;
 

@@ -3,17 +3,15 @@
 //! them.
 #![tactic(auto)]
 
+pub mod command_tests;
 #[cfg(test)]
 mod crashes;
 #[cfg(test)]
 mod messages;
 #[cfg(test)]
 mod polls;
+pub mod relay_tests;
 #[cfg(test)]
 mod stage;
 #[cfg(test)]
 mod strangers;
-
-pub mod command_tests;
-
-pub mod relay_tests;

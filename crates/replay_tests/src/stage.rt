@@ -3,9 +3,9 @@ ghost use Rattle.std.specs.Prelude.{IfOk};
 ghost use Rattle.std.specs.List.{AllByRecursion};
 ghost use Rattle.rm_script.specs.Within.{IsWithin};
 
+use rm_base::wire::MemWire;
 use rm_base::{Blob, Memory};
 use rm_disk::MemDisk;
-use rm_base::wire::MemWire;
 use rm_replay::{Stage, run_script};
 use rm_script::laws::values_are_within;
 use rm_script::{Event, ScriptError, read_script};

@@ -1,8 +1,8 @@
 //! A packet that answers bytes which come from elsewhere.
 
 use crate::stage::{has, joined, played_with_wire};
-use rm_base::{Blob, Memory, push_hex};
 use rm_base::wire::Wire;
+use rm_base::{Blob, Memory, push_hex};
 use std::alloc::Global;
 use std::test::Fail;
 

@@ -37,6 +37,5 @@ pub use streams::{StdSink, StdSource};
 pub use text::{Ident, TextError, Uri, copy_optional_uri, uri_of};
 pub use transfer::{ReadError, read_up_to, write_all};
 
-pub mod words;
-
 pub mod wire;
+pub mod words;

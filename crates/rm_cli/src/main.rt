@@ -3,13 +3,13 @@
 
 mod run;
 
+use http_endpoint::link::TcpLink;
+use rm_base::wire::MemWire;
 use rm_base::words::{texts_given, words_behind};
 use rm_base::{Blob, Memory, StdClock, StdSink, StdSource};
 use rm_disk::MemDisk;
 use rm_disk::file::FileDisk;
 use rm_host::{End, Host, explain};
-use http_endpoint::link::TcpLink;
-use rm_base::wire::MemWire;
 use rm_replay::Stage;
 use run::run;
 use std::process::ExitCode;

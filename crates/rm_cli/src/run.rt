@@ -10,11 +10,11 @@ ghost use Rattle.rm_host.specs.Runs.{IsComplete, IsSpent, IsStatusOf as IsNodeSt
 ghost use Rattle.rm_host.specs.Words.{is_of_node};
 ghost use Rattle.rm_replay.specs.Shows.{IsFresh, scene_of};
 
+use http_endpoint::link::Link;
+use rm_base::wire::Wire;
 use rm_base::{Blob, Clock, Sink, Source};
 use rm_disk::{CrashDisk, Disk};
 use rm_host::{Host, is_of_node};
-use http_endpoint::link::Link;
-use rm_base::wire::Wire;
 use rm_replay::Stage;
 use std::alloc::Global;
 

@@ -18,9 +18,11 @@ use crate::end::{End, Fault, refuse};
 use crate::filter::{NoText, read_input};
 use rm_base::limits::ENVELOPE_BYTES;
 use rm_base::{Memory, Sink, SinkError, Source};
+use rm_policy::alternatives::{
+    Alternatives, WspError, find_common, find_normal, pieces_of, write_pieces,
+};
 use soap_document::profile::EnvelopeError;
 use std::alloc::Global;
-use rm_policy::alternatives::{Alternatives, WspError, find_common, find_normal, pieces_of, write_pieces};
 
 /// Reads a policy, and prints its normal form.
 pub fn normal<S: Source, K: Sink>(alloc: Global, input: &mut S, out: &mut K) -> End

@@ -6,12 +6,12 @@ ghost use Rattle.rm_command.specs.declared.end.Fault.{Fault as AFault};
 
 use crate::end::Fault;
 use crate::filter::NoText;
-use rm_script::message_lines::message_lines;
 use message_reader::decode_read;
 use rm_base::Blob;
 use rm_message::{DecodeError, FaultKind, Refusal};
-use soap_envelope::Envelope;
+use rm_script::message_lines::message_lines;
 use soap_document::profile::EnvelopeError;
+use soap_envelope::Envelope;
 use std::alloc::Global;
 
 /// What is printed of bytes of which a reader of envelopes answered this, where they spell a message.

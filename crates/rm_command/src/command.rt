@@ -14,16 +14,16 @@ use crate::policy::policy;
 use crate::replay::replay;
 use crate::soak::soak;
 use message_reader::laws::a_message_is_not_refused;
+use rm_base::wire::Wire;
 use rm_base::{Blob, Sink, Source};
 use rm_disk::CrashDisk;
-use rm_base::wire::Wire;
+use rm_policy::alternatives::laws::what_is_found_is_not_refused;
 use rm_policy::laws::one_reading;
 use rm_replay::Stage;
-use rm_script::report::exits::USAGE_LINE;
 use rm_script::laws::no_bad_line;
+use rm_script::report::exits::USAGE_LINE;
 use rm_script::soak::number_in;
 use std::alloc::Global;
-use rm_policy::alternatives::laws::what_is_found_is_not_refused;
 
 /// Does what the words say, those after the program's name, and answers the exit status.
 pub fn run<S: Source, K: Sink, M: CrashDisk, W: Wire>(

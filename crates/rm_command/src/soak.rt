@@ -10,15 +10,15 @@ ghost use Rattle.rm_script.specs.Soak.Soak.{soak_script};
 
 use crate::end::End;
 use crate::filter::write_text;
+use rm_base::wire::Wire;
 use rm_base::{Memory, Sink};
 use rm_disk::CrashDisk;
-use rm_base::wire::Wire;
 use rm_replay::laws::a_delivered_message_is_taken;
 use rm_replay::{Stage, run_script};
 use rm_script::laws::{no_bad_line, values_are_within};
-use rm_script::{Event, ScriptError, read_script};
 use rm_script::soak::laws::a_soak_is_a_script;
 use rm_script::soak::{script, summary};
+use rm_script::{Event, ScriptError, read_script};
 use std::alloc::Global;
 
 /// Plays the script of a number over the stage, and prints the summary of its report. Nothing is read.

@@ -15,5 +15,4 @@ pub use disk::{CrashDisk, Disk};
 pub use mem::MemDisk;
 
 pub mod file;
-
 pub mod journal;

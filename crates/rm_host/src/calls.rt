@@ -31,13 +31,13 @@ ghost use Rattle.rm_host.specs.Makings.{HasMade};
 
 use crate::end::End;
 use crate::host::Host;
-use node_laws::answers::Wish;
 use http_endpoint::Media;
+use http_endpoint::link::Link;
+use node_laws::answers::Wish;
 use node_laws::laws::there_are_own_terms;
 use record_batch::Via;
 use rm_base::{Blob, Connection, Lapse, Uri};
 use rm_disk::Disk;
-use http_endpoint::link::Link;
 use rm_node::{Made, Node, NodeError, Outs, Sent};
 use rm_serve::laws::a_node_stays_up;
 use rm_serve::{Posted, Served, post_due, post_due11, serve_one, serve_one11};

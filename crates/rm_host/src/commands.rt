@@ -18,14 +18,14 @@ use crate::end::End;
 use crate::host::Host;
 use crate::items::push_inbox;
 use crate::laws::a_command_leaves_its_records;
+use http_endpoint::link::Link;
 use node_laws::answers::Cause;
 use node_tables::Tables;
 use rm_base::{Blob, Clock, Memory, Uri, push_decimal};
-use rm_sides::destination::Incoming;
 use rm_disk::Disk;
-use http_endpoint::link::Link;
 use rm_node::{Node, Outs};
 use rm_serve::Posted;
+use rm_sides::destination::Incoming;
 use std::alloc::Global;
 
 /// Makes a node on an empty disk.

@@ -14,13 +14,13 @@ use crate::calls::{consume_items, mount};
 use crate::end::End;
 use crate::host::Host;
 use crate::items::push_items;
+use http_endpoint::link::Link;
 use node_laws::answers::Cause;
 use node_tables::Tables;
 use node_tables::laws::an_incoming_sequence_is_as_recorded;
 use rm_base::{Blob, Clock, Memory, Sink, SinkError, push_decimal, write_all};
-use rm_sides::destination::Incoming;
 use rm_disk::Disk;
-use http_endpoint::link::Link;
+use rm_sides::destination::Incoming;
 use std::alloc::Global;
 
 /// Prints the items of an inbox past the cursor up to one, and records then that they were consumed. Where it stops

@@ -9,10 +9,10 @@ use crate::calls::import_node;
 use crate::commands::check_empty;
 use crate::end::End;
 use crate::host::Host;
+use http_endpoint::link::Link;
 use rm_base::limits::JOURNAL_BYTES;
 use rm_base::{Blob, Clock, Memory, ReadError, Source, push_decimal, read_up_to};
 use rm_disk::Disk;
-use http_endpoint::link::Link;
 use std::alloc::Global;
 
 /// Reads a journal of the layout before, to the end of the input, and makes an empty disk that of its node. After a

@@ -13,13 +13,13 @@ use crate::import::import;
 use crate::send::send;
 use crate::serve::serve;
 use crate::words::{Command, command_of};
+use http_endpoint::link::{Fault as LinkFault, Link, TcpLink};
 use rm_base::words::{texts_given, words_behind};
 use rm_base::{
     Blob, Clock, Memory, Sink, SinkError, Source, StdClock, StdSink, StdSource, write_all,
 };
 use rm_disk::Disk;
 use rm_disk::file::{Fault as DiskFault, FileDisk, NAME};
-use http_endpoint::link::{Fault as LinkFault, Link, TcpLink};
 use rm_script::report::exits;
 use std::alloc::Global;
 use std::process::ExitCode;

@@ -1,6 +1,6 @@
 //! What a message has: SOAP 1.2 Part 1, section 5, with the headers of WS-Addressing 1.0 and WS-ReliableMessaging 1.2.
-use rm_base::{Blob, Ident, Items, Payload};
 use crate::elements::{AckBlock, Lifecycle, SeqHeader};
+use rm_base::{Blob, Ident, Items, Payload};
 use soap_document::profile::{Elements, Name};
 use wsa_headers::Addressing;
 

@@ -24,7 +24,6 @@ use crate::fetch::Answered;
 use crate::kept::Kept;
 use crate::wait::wait_on;
 use node_laws::answers::{Answer, Moves};
-use timers::pending::Pending;
 use node_store::{Store, StoreError};
 use node_tables::Tables;
 use node_waits::keys::{Touched, named};
@@ -32,8 +31,9 @@ use node_waits::{Fetched, Held, keep, make_room, take, to_wait};
 use rm_base::Memory;
 use rm_disk::Disk;
 use rm_message::Message;
-use timers::slots::Key;
 use std::alloc::Global;
+use timers::pending::Pending;
+use timers::slots::Key;
 
 /// What is made before the records of an answer are written: the keys that they may end, and the messages that are to
 /// wait, for which there is room.

@@ -5,11 +5,11 @@ ghost use Rattle.rm_node.specs.Compacted.{IsCompacted, compact_end};
 use crate::error::NodeError;
 use crate::node::Node;
 use node_laws::answers::Cause;
+use node_laws::snapshots::laws::{a_node_has_proper_ranges, a_snapshot_is_kept};
 use node_store::RewriteError;
 use node_store::laws::fresh_batches_are_those_of_a_node;
 use rm_disk::Disk;
 use rm_protocol::laws::what_waits_is_exact_in_short;
-use node_laws::snapshots::laws::{a_node_has_proper_ranges, a_snapshot_is_kept};
 
 impl Node {
     /// Writes the node's journal anew, so that it has what its records say in short, each record as an entry of its

@@ -6,11 +6,11 @@ ghost use Rattle.rm_protocol.specs.Polls.{awaited, fetches};
 ghost use Rattle.rm_node.specs.Fetching.{if_taken, whole};
 
 use node_laws::answers::{Answer, Outcome};
-use timers::pending::Pending;
 use node_waits::{Fetched, Polled, polls};
 use rm_base::{Memory, Uri};
 use rm_message::Message;
 use std::alloc::Global;
+use timers::pending::Pending;
 
 /// The answer to a call, and the message that is fetched with it.
 #[derive(Debug, Drop)]

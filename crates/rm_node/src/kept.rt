@@ -4,11 +4,11 @@ ghost use Rattle.rm_base.specs.declared.message.Behaviour.TheVariants.{Following
 ghost use Rattle.timers.specs.Keys.Keyed.{StandsFor};
 ghost use Rattle.timers.specs.Pending.Waiting.{nothing_waits};
 
-use timers::keys::KeyTimers;
-use timers::pending::Pending;
 use rm_base::{Behaviour, Memory};
 use rm_message::Message;
 use std::alloc::Global;
+use timers::keys::KeyTimers;
+use timers::pending::Pending;
 
 /// What a node keeps besides its records. It is not on the disk: a mount works it out anew.
 #[derive(Drop)]

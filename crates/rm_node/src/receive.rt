@@ -20,9 +20,9 @@ use message_reader::decode;
 use message_reader::laws::{a_message_is_not_refused, one_message, one_refusal};
 use node_tables::Tables;
 use node_waits::selected;
-use rm_wire::read_laws::laws::what_is_read_may_be_written;
 use rm_base::Memory;
 use rm_message::{DecodeError, Message, Refusal};
+use rm_wire::read_laws::laws::what_is_read_may_be_written;
 use std::alloc::Global;
 
 // The answer to a message, with what it fetches.

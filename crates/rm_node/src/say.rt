@@ -25,11 +25,11 @@ use node_laws::answers::Answer;
 use node_laws::laws::{each_call_keeps_the_records, there_are_own_terms};
 use node_tables::Tables;
 use node_waits::keys::due_keys;
-use rm_wire::read_laws::laws::{a_refusal_may_be_answered, what_is_read_may_be_written};
 use rm_base::Memory;
 use rm_protocol::laws::{only_what_was_heard_is_recorded, what_begins_waits};
-use timers::slots::Key;
+use rm_wire::read_laws::laws::{a_refusal_may_be_answered, what_is_read_may_be_written};
 use std::alloc::Global;
+use timers::slots::Key;
 
 /// What a node says to a call: the answer, the key that begins to wait unless it is a refusal, and what leaves the node
 /// once its records are written.

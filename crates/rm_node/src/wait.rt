@@ -6,9 +6,9 @@ ghost use Rattle.timers.specs.Keys.Keyed.{Rises, Steps, slot_at};
 ghost use Rattle.node_waits.specs.Keys.Settled.{cells_all, changed};
 
 use node_laws::answers::Moves;
-use timers::keys::KeyTimers;
 use node_tables::Tables;
 use node_waits::keys::{Touched, after_call};
+use timers::keys::KeyTimers;
 use timers::slots::Key;
 
 /// The time is at least what an answer tells, and the keys move, once its records, which may end these keys, are in the

@@ -2,11 +2,11 @@
 //! proved and built, since it is read from its sources in half the time.
 #![tactic(auto)]
 
+use rm_base::wire::MemWire;
 use rm_base::words::{texts_given, words_behind};
 use rm_base::{Blob, Memory, StdSink, StdSource};
 use rm_command::{End, run};
 use rm_disk::MemDisk;
-use rm_base::wire::MemWire;
 use rm_replay::Stage;
 use std::process::ExitCode;
 

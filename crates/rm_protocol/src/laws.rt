@@ -34,10 +34,10 @@ ghost use Rattle.record_batch.specs.Sequences.Destinations.{cursor, discarded, i
 ghost use Rattle.record_batch.specs.Sequences.Sources.{accepted_count};
 ghost use Rattle.record_batch.specs.Sequences.Words.{Text};
 
+use record_batch::sequences::laws::one_number_one_identifier;
 use record_batch::snapshot::{
     a_snapshot_fits, a_snapshot_is_proper, a_snapshot_keeps_all, a_snapshot_says_the_same,
 };
-use record_batch::sequences::laws::one_number_one_identifier;
 
 /// Whatever is sent, lost, repeated, reordered and consumed, and whichever node crashes at whichever device call, every
 /// run keeps the headline at each pair of images of both disks, and so it keeps what is said of loose sequences.

@@ -11,8 +11,8 @@ ghost use Rattle.rm_relay.specs.Shows.{Holds, IsLeftOfLine, Scene};
 ghost use Rattle.rm_relay.specs.Within.{IsWithin};
 ghost use Rattle.rm_relay.specs.declared.event.Event.{Event as Said};
 
-use node_laws::laws::own_terms_are_terms;
 use crate::word::laws::every_relay_keeps_its_word;
+use node_laws::laws::own_terms_are_terms;
 
 /// A line is read from left to right exactly as the grammar says.
 pub fn each_line_is_read()

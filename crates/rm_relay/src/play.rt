@@ -13,10 +13,10 @@ use crate::happen::happen;
 use crate::report::{Line3, push_line};
 use crate::stage::{Nodes3, Stage3};
 use crate::wire::Senders;
-use rm_replay::actor::laws::each_image_is_left;
+use rm_base::wire::Wire;
 use rm_base::{Blob, Memory};
 use rm_disk::CrashDisk;
-use rm_base::wire::Wire;
+use rm_replay::actor::laws::each_image_is_left;
 use rm_replay::laws::there_are_nets;
 use std::alloc::Global;
 

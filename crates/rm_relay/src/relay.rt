@@ -13,11 +13,11 @@ use crate::run::run_relay;
 use crate::script::read_relay;
 use crate::stage::Stage3;
 use rm_base::limits::SCRIPT_BYTES;
+use rm_base::wire::Wire;
 use rm_base::{Memory, Sink, Source};
 use rm_command::end::{End, refuse_line};
 use rm_command::filter::{read_input, write_text};
 use rm_disk::CrashDisk;
-use rm_base::wire::Wire;
 use rm_script::ScriptError;
 use std::alloc::Global;
 

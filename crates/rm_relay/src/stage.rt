@@ -1,8 +1,8 @@
 //! What a relay is played over.
 
-use rm_replay::actor::Actor;
-use rm_disk::CrashDisk;
 use rm_base::wire::Wire;
+use rm_disk::CrashDisk;
+use rm_replay::actor::Actor;
 
 /// The disks of three nodes, and the wire between them.
 #[derive(Debug, Drop)]

@@ -4,12 +4,12 @@ ghost use Rattle.rm_node.specs.Packets.{reply_packet};
 ghost use Rattle.rm_relay.specs.Putting.{IsPutInPart, goes_by, going_of, goings_of, net_of, with_all, with_one};
 ghost use Rattle.rm_relay.specs.Word.World.{address_of, number_of, station_at as station_of};
 
-use rm_replay::actor::Came;
-use node_messages::is_anonymous;
 use crate::word::Station;
-use rm_base::{Blob, Memory};
+use node_messages::is_anonymous;
 use rm_base::wire::Wire;
+use rm_base::{Blob, Memory};
 use rm_node::Out;
+use rm_replay::actor::Came;
 use rm_script::report::Outcome;
 use std::alloc::Global;
 

@@ -8,8 +8,8 @@ ghost use Rattle.rm_replay.specs.Asked.{StepsAt, WereAsked, step_of};
 ghost use Rattle.rm_replay.specs.Meaning.{side_of};
 ghost use Rattle.rm_replay.specs.Shows.{StandFor, drives_of};
 
-use crate::stage::Nodes;
 use crate::actor::Came;
+use crate::stage::Nodes;
 use rm_base::Memory;
 use rm_disk::CrashDisk;
 use rm_node::Call;

@@ -14,24 +14,24 @@ ghost use Rattle.rm_replay.specs.Meaning.{side_of, via_of};
 ghost use Rattle.rm_replay.specs.Net.{AreOfNet, number_of};
 ghost use Rattle.rm_replay.specs.Shows.{Drives, Shows, StandFor, address_of, drives_of, scene_of};
 
+use crate::actor::laws::each_image_is_left;
 use crate::ask::ask_at;
 use crate::stage::{Nodes, Stage};
 use crate::wire::put_came;
-use node_laws::answers::Wish;
 use message_reader::decode;
-use crate::actor::laws::each_image_is_left;
+use node_laws::answers::Wish;
 use node_laws::laws::{each_message_keeps_the_rules, what_waits_keeps_the_rules};
-use rm_wire::read_laws::laws::{a_refusal_may_be_answered, what_is_read_may_be_written};
 use record_batch::Via;
 use rm_base::laws::texts_are_tested;
+use rm_base::wire::Wire;
 use rm_base::{Behaviour, Blob, Lapse, Memory, TextError, Uri};
 use rm_disk::CrashDisk;
 use rm_message::DecodeError;
-use rm_base::wire::Wire;
 use rm_node::Call;
 use rm_script::report::Outcome;
 use rm_script::{Event, Side};
 use rm_wire::laws::what_is_written_is_read;
+use rm_wire::read_laws::laws::{a_refusal_may_be_answered, what_is_read_may_be_written};
 use std::alloc::Global;
 
 fn address_bytes(side: Side) -> &'static [u8]

@@ -15,5 +15,4 @@ pub use run::run_script;
 pub use stage::Stage;
 
 pub mod actor;
-
 pub mod summary;

@@ -9,15 +9,15 @@ ghost use Rattle.rm_replay.specs.Playing.{PlaysLine, Plays};
 ghost use Rattle.rm_replay.specs.Played.{start_world};
 ghost use Rattle.rm_replay.specs.Shows.{Shows, scene_of};
 
+use crate::actor::laws::each_image_is_left;
 use crate::happen::happen;
 use crate::laws::there_are_nets;
 use crate::stage::{Nodes, Stage};
-use crate::actor::laws::each_image_is_left;
+use rm_base::wire::Wire;
 use rm_base::{Blob, Memory};
 use rm_disk::CrashDisk;
-use rm_base::wire::Wire;
-use rm_script::report::{Line, push_lines};
 use rm_script::Event;
+use rm_script::report::{Line, push_lines};
 use std::alloc::Global;
 
 /// Does what one line says, and appends the report's line of it.

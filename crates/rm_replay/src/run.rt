@@ -12,16 +12,16 @@ ghost use Rattle.rm_replay.specs.Played.{IsUnmade, Ran, RanShort, known_text, st
 ghost use Rattle.rm_replay.specs.Shows.{IsFresh, Shows, drives_of, scene_of};
 ghost use Rattle.rm_replay.specs.Asked.{WereSpared};
 
+use crate::actor::Actor;
+use crate::actor::laws::each_image_is_left;
 use crate::happen::address;
 use crate::laws::{a_played_script_keeps_the_headline, there_are_nets, what_was_accepted_was_sent};
 use crate::play::play;
 use crate::stage::{Nodes, Stage};
-use crate::actor::Actor;
-use crate::actor::laws::each_image_is_left;
 use crate::summary::push_node;
+use rm_base::wire::Wire;
 use rm_base::{Blob, Memory};
 use rm_disk::CrashDisk;
-use rm_base::wire::Wire;
 use rm_script::report::push_down;
 use rm_script::{Event, Side};
 use std::alloc::Global;

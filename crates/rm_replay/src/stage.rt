@@ -1,8 +1,8 @@
 //! What a script is played over.
 
 use crate::actor::Actor;
-use rm_disk::CrashDisk;
 use rm_base::wire::Wire;
+use rm_disk::CrashDisk;
 
 /// The disks of two nodes, and the wire between them.
 #[derive(Debug, Drop)]

@@ -5,8 +5,8 @@ ghost use Rattle.rm_node.specs.Packets.{reply_packet};
 ghost use Rattle.rm_replay.specs.Happening.{IsPutInPart, with_all};
 
 use crate::actor::Came;
-use rm_base::{Blob, Memory};
 use rm_base::wire::Wire;
+use rm_base::{Blob, Memory};
 use rm_node::Out;
 use rm_script::report::Outcome;
 

@@ -14,8 +14,6 @@ pub use decimal::number_of;
 pub use event::{Event, Side};
 pub use script::{ScriptError, read_script};
 
-pub mod soak;
-
-pub mod report;
-
 pub mod message_lines;
+pub mod report;
+pub mod soak;

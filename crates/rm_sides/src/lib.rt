@@ -1,8 +1,6 @@
 //! rm_sides: TO BE WRITTEN.
 #![tactic(auto)]
 
-pub mod ranges;
-
-pub mod source;
-
 pub mod destination;
+pub mod ranges;
+pub mod source;

@@ -8,5 +8,4 @@ pub mod laws;
 pub use laws::{a_fault_keeps_the_rules, what_is_written_has_one_message, what_is_written_is_read};
 
 pub mod read_laws;
-
 pub mod soap11;

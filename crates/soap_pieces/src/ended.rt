@@ -22,9 +22,9 @@ use soap_document::Reader;
 use soap_document::laws::{
     content_stands_between, document_is_read, document_is_utf8, pieces_are_joined, refused_stays,
 };
+use soap_document::profile::{EnvelopeError, Placed};
 use soap_envelope::laws::one_answer;
 use soap_envelope::{Envelope, envelope_of, read_envelope};
-use soap_document::profile::{EnvelopeError, Placed};
 use std::alloc::Global;
 
 /// What is answered of bytes in which a root has ended, what reads on, and how much of all bytes is UTF-8.

@@ -8,8 +8,8 @@ ghost use Rattle.soap_pieces.specs.Answer.{Reads};
 ghost use Rattle.soap_pieces.specs.Front.{IsFront, IsTail, front_len, tail_len};
 
 use rm_base::{Blob, Memory};
-use soap_lex::utf8_prefix;
 use soap_document::profile::EnvelopeError;
+use soap_lex::utf8_prefix;
 use std::alloc::Global;
 
 /// The length of the longest front of some bytes that is UTF-8, and what stands behind it, where more bytes may make a

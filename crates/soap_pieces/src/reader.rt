@@ -28,8 +28,8 @@ ghost use Rattle.soap_pieces.specs.Hopeless.{BeginsNone, IsHopeless};
 use crate::stage::Stage;
 use rm_base::Memory;
 use soap_document::laws::{content_stands_between, document_is_read, pieces_are_joined};
-use soap_envelope::Envelope;
 use soap_document::profile::EnvelopeError;
+use soap_envelope::Envelope;
 use std::alloc::Global;
 use std::mem;
 

@@ -17,9 +17,9 @@ use rm_base::limits::ENVELOPE_BYTES;
 use rm_base::{Blob, Memory};
 use soap_document::Reader;
 use soap_document::laws::{document_is_read, pieces_are_joined, refused_stays};
+use soap_document::profile::{DocumentReader, EnvelopeError};
 use soap_envelope::Envelope;
 use soap_lex::{first_byte, utf8_prefix};
-use soap_document::profile::{DocumentReader, EnvelopeError};
 use std::alloc::Global;
 
 /// How far it has come with what it was fed.

@@ -1,8 +1,8 @@
 //! What lists of alternatives have in common that are no normal forms of policies within the limits.
 use rm_base::Memory;
+use rm_policy::alternatives::{Alternatives, Term, Terms, WspError, intersect};
 use soap_document::profile::{Name, Shared};
 use std::alloc::Global;
-use rm_policy::alternatives::{Alternatives, Term, Terms, WspError, intersect};
 
 // So many alternatives of a term each, in order.
 fn alternatives(alloc: Global, count: u16) -> Result<Alternatives, Memory> {

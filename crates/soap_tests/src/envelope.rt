@@ -1,7 +1,7 @@
 //! Envelopes, read.
 use rm_base::{Blob, Memory, Payload, push_decimal};
-use soap_envelope::{Envelope, read_envelope};
 use soap_document::profile::EnvelopeError;
+use soap_envelope::{Envelope, read_envelope};
 use std::alloc::Global;
 
 pub const REQUEST: &str = concat!(

@@ -3,9 +3,19 @@
 #![tactic(auto)]
 
 #[cfg(test)]
+mod addressing;
+#[cfg(test)]
+mod broken;
+#[cfg(test)]
+mod common;
+#[cfg(test)]
 mod document;
 #[cfg(test)]
+mod elements;
+#[cfg(test)]
 mod envelope;
+#[cfg(test)]
+mod forms;
 #[cfg(test)]
 mod frame;
 #[cfg(test)]
@@ -17,22 +27,10 @@ mod pieces;
 #[cfg(test)]
 mod profile;
 #[cfg(test)]
-mod writer;
-
-#[cfg(test)]
-mod addressing;
-#[cfg(test)]
-mod elements;
+mod secured;
 #[cfg(test)]
 mod values;
-
 #[cfg(test)]
-mod broken;
-#[cfg(test)]
-mod common;
-#[cfg(test)]
-mod forms;
-#[cfg(test)]
-mod secured;
+mod writer;
 #[cfg(test)]
 mod written;

@@ -1,9 +1,9 @@
 //! Envelopes, read in pieces.
 use crate::envelope::{REQUEST, REQUEST_SHOWN, shown_envelope};
 use rm_base::Memory;
+use soap_document::profile::EnvelopeError;
 use soap_envelope::Envelope;
 use soap_pieces::EnvelopeReader;
-use soap_document::profile::EnvelopeError;
 use std::alloc::Global;
 
 const SHORT: &[u8] =

@@ -1,7 +1,7 @@
 //! Normal forms as texts in memory, which the program never makes: it writes to its output, block by block.
 use rm_base::Blob;
-use std::alloc::Global;
 use rm_policy::alternatives::{WspError, normalise, read_policy, write_normal};
+use std::alloc::Global;
 
 const ROOT: &[u8] = b"<w:Policy xmlns:w=\"http://www.w3.org/ns/ws-policy\" \
     xmlns:p=\"http://docs.oasis-open.org/ws-rx/wsrmp/200702\" xmlns:x=\"urn:x\" xmlns:y=\"urn:a,b c%d\">";

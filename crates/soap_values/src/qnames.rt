@@ -8,8 +8,8 @@ ghost use Rattle.soap_values.specs.Steps.{lent_trees};
 
 use crate::flaw::Flaw;
 use rm_base::Binding;
-use soap_document::{cut, is_qname};
 use soap_document::profile::{Element, Item, Name, Shared, XML_SPACE};
+use soap_document::{cut, is_qname};
 use std::alloc::Global;
 
 /// The name that bytes are within these elements, the innermost of which comes first, around which the outer bindings

@@ -12,5 +12,4 @@ pub use element::write_element;
 pub use text::{push_bytes, push_quoted, push_text, push_value};
 
 pub mod nodes;
-
 pub mod stripped;

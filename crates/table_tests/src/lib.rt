@@ -1,6 +1,7 @@
 //! The tests of a node's tables. They stand apart, since a crate with tests is proved a second time with them.
 #![tactic(auto)]
 
+pub mod batch_tests;
 #[cfg(test)]
 mod parts;
 #[cfg(test)]
@@ -9,5 +10,3 @@ mod readers;
 mod room;
 #[cfg(test)]
 mod snapshots;
-
-pub mod batch_tests;

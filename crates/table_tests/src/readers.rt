@@ -1,9 +1,9 @@
 //! What tables answer after a few records.
 use crate::parts::{NEVER, at_new, endpoint, ident, made, payload, uri};
 use node_tables::{Maker, Peer, TableError, Tables};
+use record_batch::sequences::issue;
 use record_batch::{OwnOffer, PeerOffer, Record, Via};
 use rm_base::{Behaviour, Blob, Ident, Uri};
-use record_batch::sequences::issue;
 use std::alloc::Global;
 use std::test::Fail;
 use wsa_headers::Epr;

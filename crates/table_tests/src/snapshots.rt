@@ -1,9 +1,9 @@
 //! Snapshots of the records of tables: what they say in short.
 use crate::parts::{NEVER, at_new, endpoint, ident, made, payload, uri};
-use rm_sides::ranges::RangeSet;
 use node_tables::Tables;
 use record_batch::{Record, Records, Via};
 use rm_base::{Behaviour, Blob, is_message_number};
+use rm_sides::ranges::RangeSet;
 use rm_sides::source::OutPhase;
 use std::alloc::Global;
 use std::test::Fail;

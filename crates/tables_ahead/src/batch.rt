@@ -17,9 +17,9 @@ use crate::record::{
 };
 use node_tables::{Maker, maker_by};
 use record_batch::Record;
+use record_batch::sequences::made_by;
 use rm_base::Ident;
 use rm_sides::source::OutPhase;
-use record_batch::sequences::made_by;
 use wsa_headers::Epr;
 
 /// How many numbers were drawn, after so many, or the greatest number of 64 bits.

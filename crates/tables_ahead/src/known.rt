@@ -24,13 +24,13 @@ use crate::batch::{
 use crate::numbers::{acks_in, has_all, insert_received, unite_acked};
 use crate::sides;
 use crate::sought::Sought;
-use rm_sides::ranges::{Range, RangeSet};
 use node_tables::{Maker, Tables};
 use record_batch::Record;
+use record_batch::sequences::{issued_counter, made_by};
 use rm_base::{Ident, Memory, Uri};
 use rm_sides::destination::is_past;
+use rm_sides::ranges::{Range, RangeSet};
 use rm_sides::source::OutPhase;
-use record_batch::sequences::{issued_counter, made_by};
 use std::alloc::Global;
 use std::marker::Model;
 use wsa_headers::Epr;

@@ -10,9 +10,9 @@ ghost use Rattle.node_tables.specs.Room.{has_room};
 ghost use Rattle.tables_ahead.specs.Known.{AreNumbers};
 
 use crate::record::{acked_by, number_by};
-use rm_sides::ranges::{Range, RangeSet};
 use record_batch::Record;
 use rm_base::Memory;
+use rm_sides::ranges::{Range, RangeSet};
 
 /// Whether the batch acknowledges numbers of a sequence.
 pub(crate) fn acks_in(batch: &[Record], seq: u32) -> bool

@@ -12,9 +12,9 @@ ghost use Rattle.record_batch.specs.Sequences.Words.{at_seq, last_or};
 ghost use Rattle.node_tables.specs.Room.{has_room};
 ghost use Rattle.tables_ahead.specs.Known.{ranges_in};
 
-use rm_sides::ranges::RangeSet;
 use record_batch::Record;
 use rm_base::Ident;
+use rm_sides::ranges::RangeSet;
 use rm_sides::source::OutPhase;
 use wsa_headers::Epr;
 

@@ -9,12 +9,12 @@ ghost use Rattle.record_batch.specs.Sequences.Fits.{all_fit};
 ghost use Rattle.record_batch.specs.Sequences.Sources.{accepted_count, acked, phase};
 
 use crate::numbers::has_all;
-use rm_sides::ranges::{Range, RangeSet};
 use node_tables::Tables;
 use node_tables::laws::{an_incoming_sequence_is_as_recorded, an_outgoing_sequence_is_as_recorded};
 use record_batch::Record;
 use rm_base::{Cause, Memory};
 use rm_sides::destination::laws::front_is_reached;
+use rm_sides::ranges::{Range, RangeSet};
 use rm_sides::source::OutPhase;
 use std::alloc::Global;
 

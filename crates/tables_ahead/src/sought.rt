@@ -7,8 +7,8 @@ ghost use Rattle.record_batch.specs.Sequences.Makers.{number};
 ghost use Rattle.tables_ahead.specs.Known.{IsSought};
 
 use node_tables::Tables;
-use rm_base::Ident;
 use record_batch::sequences::issued_counter;
+use rm_base::Ident;
 
 /// What was sought: the number that the node issued an identifier for, and the incoming sequence that has it. Where
 /// there is no number nothing was.

@@ -1,10 +1,7 @@
 //! timers: TO BE WRITTEN.
 #![tactic(auto)]
 
-pub mod links;
-
-pub mod slots;
-
 pub mod keys;
-
+pub mod links;
 pub mod pending;
+pub mod slots;

@@ -1,8 +1,6 @@
 //! wire_tests: TO BE WRITTEN.
 #![tactic(auto)]
 
-pub mod wire_cases;
-
-pub mod wire_texts;
-
 pub mod soap11_cases;
+pub mod wire_cases;
+pub mod wire_texts;

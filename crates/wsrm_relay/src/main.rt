@@ -1,9 +1,9 @@
 //! The program wsrm_relay: a script of three nodes on standard input, over disks and a wire in memory.
 #![tactic(auto)]
 
+use rm_base::wire::MemWire;
 use rm_base::{StdSink, StdSource};
 use rm_disk::MemDisk;
-use rm_base::wire::MemWire;
 use rm_relay::{Stage3, relay_run};
 use std::process::ExitCode;
 

@@ -8,9 +8,7 @@ ghost use Rattle.http_endpoint.specs.Link.Posts.{Ends, IsBegun, IsBegunAs, IsBeg
 ghost use Rattle.http_endpoint.specs.Link.Posts.{ended_by};
 
 use crate::link::link::Link;
-use crate::{
-    HttpError, Media, Response, Target, read_response, read_target, write_request_as,
-};
+use crate::{HttpError, Media, Response, Target, read_response, read_target, write_request_as};
 use rm_base::{Blob, Memory, Uri};
 use std::alloc::Global;
 

@@ -6,8 +6,8 @@ ghost use Rattle.node_laws.specs.Answers.Answers.{moves_seen};
 use record_batch::{Record, Via};
 use rm_base::{Behaviour, Lapse, Uri};
 use rm_message::{FaultKind, Message};
-use timers::slots::Key;
 use std::alloc::Global;
+use timers::slots::Key;
 
 /// Why a call is refused, in the order in which it is tested. Of a full window or node: how many messages wait for an
 /// acknowledgement. Of a full store: where its entries end, and how many bytes the entry would take. Of an item past

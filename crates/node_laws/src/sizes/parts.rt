@@ -19,9 +19,9 @@ ghost use Rattle.node_laws.specs.Sizes.Size.{
 };
 ghost use Rattle.node_laws.specs.Sizes.Typed.{IsPeerOfferTyped};
 
-use rm_sides::ranges::RangeSet;
 use record_batch::{OwnOffer, PeerOffer};
 use rm_base::{Binding, Blob, Ident, Lapse, Memory, Payload, Uri};
+use rm_sides::ranges::RangeSet;
 use soap_document::profile::Element;
 use soap_writer::write_element;
 use std::alloc::Global;

@@ -14,9 +14,9 @@ use crate::sizes::parts::{
     accept_len, deadline_len, endpoint_len, ident_len, lapse_len, own_offer_len, payload_len,
     peer_offer_len, ranges_len, u8_len, u32_len, u64_len, uri_len,
 };
-use rm_sides::ranges::RangeSet;
 use record_batch::{OwnOffer, PeerOffer, Record};
 use rm_base::{Blob, Ident, Lapse, Memory, Payload, Uri};
+use rm_sides::ranges::RangeSet;
 use std::alloc::Global;
 use wsa_headers::Epr;
 

@@ -42,10 +42,10 @@ ghost use Rattle.node_tables.specs.Row.Row.{
   stopped,
 };
 
-use rm_sides::ranges::RangeSet;
 use record_batch::Record;
 use rm_base::{Behaviour, Blob, Cause, MAX_NUMBER, Memory, Payload, is_message_number};
 use rm_sides::destination::{InPhase, Incoming, is_loose};
+use rm_sides::ranges::RangeSet;
 use rm_sides::source::{OutPhase, Outgoing, SourceError};
 use std::alloc::Global;
 use std::marker::Model;

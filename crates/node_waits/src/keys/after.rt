@@ -9,8 +9,8 @@ ghost use Rattle.node_waits.specs.Keys.Settled.{cells_all, changed, settled_all}
 use crate::keys::moves::{emit_all, urge_all};
 use crate::keys::records::settle;
 use crate::keys::touched::Touched;
-use timers::keys::KeyTimers;
 use node_tables::Tables;
+use timers::keys::KeyTimers;
 use timers::slots::Key;
 
 /// Of the keys that were touched those that no longer wait by the records are gone.

@@ -9,9 +9,9 @@ ghost use Rattle.rm_protocol.specs.Waiting.{key as key_of, waiting_keys};
 ghost use Rattle.record_batch.specs.Sequences.Makers.{maker};
 
 use crate::keys::waiting::waits;
-use timers::keys::KeyTimers;
 use node_tables::Tables;
 use node_tables::laws::an_outgoing_sequence_is_as_recorded;
+use timers::keys::KeyTimers;
 use timers::slots::Key;
 
 /// How many keys a sequence has: its request and its messages.

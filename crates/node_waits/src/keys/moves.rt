@@ -4,10 +4,10 @@ ghost use Rattle.rm_base.specs.Limits.{now_max};
 ghost use Rattle.timers.specs.Keys.Keyed.{Steps, StandsFor};
 ghost use Rattle.timers.specs.Keys.Waits.{Wait, first_due, send_all, urge_all as urge_all_of};
 
-use timers::keys::{KeyTimers, MOST_EMITTED};
 use rm_base::Memory;
-use timers::slots::Key;
 use std::alloc::Global;
+use timers::keys::{KeyTimers, MOST_EMITTED};
+use timers::slots::Key;
 
 /// The first keys that are due, as many as a tick emits, by class and then by the order of the last move.
 pub fn due_keys(alloc: Global, timers: &KeyTimers, now: u64) -> Result<Vec<Key>, Memory>

@@ -6,8 +6,8 @@ ghost use Rattle.node_waits.specs.Keys.Settled.{own_of, settled, settled_cells};
 
 use crate::keys::touched::Touched;
 use crate::keys::waiting::waits;
-use timers::keys::KeyTimers;
 use node_tables::Tables;
+use timers::keys::KeyTimers;
 use timers::slots::Key;
 
 /// The key at a place, where it was touched.

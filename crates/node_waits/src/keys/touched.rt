@@ -5,11 +5,11 @@ ghost use Rattle.node_waits.specs.Keys.Settled.{first_key as first_key_of, has_n
 ghost use Rattle.node_waits.specs.Keys.Settled.{all_of, each_of, touched_by};
 ghost use Rattle.record_batch.specs.Fact.{fact_of};
 
-use rm_sides::ranges::Range;
 use record_batch::Record;
 use rm_base::Memory;
-use timers::slots::Key;
+use rm_sides::ranges::Range;
 use std::alloc::Global;
+use timers::slots::Key;
 
 /// Keys of one sequence that records may end: those of the numbers of a range, or all.
 #[derive(Clone, Copy, Debug)]

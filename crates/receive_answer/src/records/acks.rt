@@ -13,11 +13,11 @@ ghost use Rattle.rm_protocol.specs.Rows.{
 };
 ghost use Rattle.receive_answer.specs.Records.WithRow.{with_row};
 
-use rm_sides::ranges::{Range, RangeSet};
 use node_messages::ranges_of;
 use record_batch::Record;
 use rm_base::Memory;
 use rm_message::elements::AckBlock;
+use rm_sides::ranges::{Range, RangeSet};
 use rm_sides::source::OutPhase;
 use std::alloc::Global;
 use tables_ahead::Known;

@@ -13,8 +13,8 @@ use crate::records::offers::taken_of;
 use node_laws::laws::a_duration_ends_once;
 use record_batch::Record;
 use rm_base::{Behaviour, Lapse, Memory, NOW_MAX, Uri};
-use rm_message::elements::{CreateSequence, Lifecycle, deadline};
 use rm_message::Body;
+use rm_message::elements::{CreateSequence, Lifecycle, deadline};
 use std::alloc::Global;
 use tables_ahead::Known;
 

@@ -13,7 +13,9 @@ ghost use Rattle.receive_answer.specs.Records.WithRow.{with_row};
 ghost use Rattle.tables_ahead.specs.Known.{all_records};
 
 use crate::records::acks::ack_rows;
-use crate::records::bodies::{close_row, closed_row, data_row, ended_row, response_row, terminate_row};
+use crate::records::bodies::{
+    close_row, closed_row, data_row, ended_row, response_row, terminate_row,
+};
 use crate::records::create::create_row;
 use crate::records::faults::fault_row;
 use rm_base::{Behaviour, Bindings, Blob, Memory, Payload};

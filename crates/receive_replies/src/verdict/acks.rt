@@ -13,11 +13,11 @@ ghost use Rattle.rm_protocol.specs.Verdict.{
 };
 ghost use Rattle.tables_ahead.specs.Known.{all_records};
 
-use rm_sides::ranges::Range;
 use node_messages::ranges_of;
 use rm_base::Ident;
 use rm_message::elements::AckBlock;
 use rm_message::{Body, Message};
+use rm_sides::ranges::Range;
 use tables_ahead::Known;
 
 fn knows_block(ahead: &Known<'_>, block: &AckBlock) -> bool

@@ -2,11 +2,11 @@
 //! and for reads, writes and packets that fail.
 ghost use Rattle.std.specs.Prelude.{None};
 
+use rm_base::wire::{MemWire, Packet, Wire};
 use rm_base::{Blob, Items, MemSink, MemSource, Memory, Numbers, Sink, SinkError};
 use rm_command::run;
 use rm_disk::MemDisk;
 use rm_disk::journal::{Journal, JournalError};
-use rm_base::wire::{MemWire, Packet, Wire};
 use rm_replay::Stage;
 use std::alloc::Global;
 use std::test::Fail;

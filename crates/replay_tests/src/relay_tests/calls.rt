@@ -2,8 +2,8 @@
 //! Node 2 is found anew on its disk before each call.
 
 use crate::relay_tests::stage::events_of;
-use rm_disk::MemDisk;
 use rm_base::wire::MemWire;
+use rm_disk::MemDisk;
 use rm_node::{Node, NodeError, Out};
 use rm_relay::run::run_relay;
 use rm_relay::{Stage3, forward, may_forward, trim};

@@ -4,8 +4,8 @@ ghost use Rattle.std.specs.List.{AllByRecursion};
 ghost use Rattle.rm_relay.specs.Within.{IsWithin};
 
 use rm_base::Blob;
-use rm_disk::MemDisk;
 use rm_base::wire::{MemWire, Wire};
+use rm_disk::MemDisk;
 use rm_relay::laws::values_are_within;
 use rm_relay::run::run_relay;
 use rm_relay::script::read_relay;

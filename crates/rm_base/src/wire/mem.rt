@@ -3,9 +3,9 @@
 ghost use Rattle.std.specs.Prelude.{◌≡◌, [], IsTrue, ◌↔◌, true};
 ghost use Rattle.rm_base.specs.Wire.Wire.{has_room};
 
-use crate::wire::wire::{Packet, Wire};
 use crate::Memory;
 use crate::limits::MOST_PACKETS;
+use crate::wire::wire::{Packet, Wire};
 use std::alloc::Global;
 use std::marker::Model;
 

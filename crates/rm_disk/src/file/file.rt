@@ -2,9 +2,9 @@
 ghost use Rattle.std.specs.Prelude.{◌≡◌, ◌-◌, ◌^◌, ℕ, [], false, None, is_err};
 ghost use Rattle.rm_disk.specs.Cause.{HasCause};
 
+use crate::Disk;
 use crate::file::fault::{Fault, named};
 use rm_base::{Failed, Memory};
-use crate::Disk;
 use std::fs::{File, Files, OpenOptions, TryLockError};
 use std::os::unix::fs::FileExt;
 

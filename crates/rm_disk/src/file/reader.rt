@@ -1,10 +1,10 @@
 //! The file of a node, as it stands, for one who changes nothing.
 ghost use Rattle.std.specs.Prelude.{◌≡◌, ◌-◌, ◌^◌, ℕ, [], false, None, is_err};
 
+use crate::Disk;
 use crate::file::fault::{Fault, named};
 use crate::file::file::{NAME, counted};
 use rm_base::{Failed, Memory};
-use crate::Disk;
 use std::fs::{File, Files};
 use std::io::ErrorKind;
 use std::os::unix::fs::FileExt;

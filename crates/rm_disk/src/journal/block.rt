@@ -11,9 +11,9 @@ ghost use Rattle.rm_disk.specs.Journal.Entries.{first_front, longest, block, lis
 ghost use Rattle.rm_disk.specs.Journal.Journal.{selector_of};
 ghost use Rattle.rm_disk.specs.Journal.Scan.{WritesBlock, WritesList};
 
+use crate::Disk;
 use crate::journal::scan::slot_of;
 use rm_base::{Blob, Failed};
-use crate::Disk;
 use std::alloc::{AllocError, Global};
 
 /// What stands behind the gate of an entry: its length, the entry and the next closed gate.

@@ -13,13 +13,13 @@ ghost use Rattle.rm_disk.specs.Journal.Entries.{StandsFor, StandsForEither, Stan
 ghost use Rattle.rm_disk.specs.declared.journal.error.JournalError.TheVariants.{Memory as WantsMemory, Disk as DiskFails};
 ghost use Rattle.rm_disk.specs.declared.journal.error.JournalError.TheVariants.{NotAJournal, Down as IsDown};
 
+use crate::Disk;
 use crate::journal::JournalError;
 use crate::journal::block::{body_of, first_text, list_of, size_of, write_block, write_list};
 use crate::journal::place::{last_gate, read_bytes, span_of};
 use crate::journal::scan::{HEAD_BEFORE, bank_of, gates_of};
 use rm_base::Blob;
 use rm_base::limits::{ENTRY_BYTES, JOURNAL_BYTES};
-use crate::Disk;
 use std::alloc::Global;
 use std::marker::Model;
 

@@ -9,8 +9,8 @@ ghost use Rattle.rm_disk.specs.Journal.Entries.{gates_from, first_of};
 ghost use Rattle.rm_disk.specs.Journal.Journal.{is_disk, is_memory};
 ghost use Rattle.rm_disk.specs.declared.journal.error.JournalError.TheVariants.{Memory as WantsMemory, Disk as DiskFails};
 
-use crate::journal::JournalError;
 use crate::Disk;
+use crate::journal::JournalError;
 use std::alloc::Global;
 
 /// The place of the gate before an entry. The entry is counted from 0.

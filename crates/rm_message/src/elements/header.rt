@@ -20,8 +20,8 @@ ghost use Rattle.rm_message.specs.Elements.Headers.{
   is_false,
 };
 
-use rm_sides::ranges::Range;
 use rm_base::{Ident, Items, MAX_NUMBER, Numbers};
+use rm_sides::ranges::Range;
 use soap_document::profile::{Element, Item};
 use soap_values::{
     Flaw, find_all, find_optional, find_single, find_value, is_true_mark, read_ident, read_number,

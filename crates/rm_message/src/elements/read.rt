@@ -9,8 +9,12 @@ ghost use Rattle.rm_message.specs.Elements.Lifecycle.{body_name as body_name_of,
 ghost use Rattle.rm_message.specs.Elements.Lifecycle.{response_in, finish_in, make_in};
 
 use crate::elements::error::ElementError;
-use crate::elements::header::{Header, MESSAGING, read_ack, read_identifier, read_numbered, read_pending};
-use crate::elements::lifecycle::{CONNECTION, Lifecycle, read_create, read_finish, read_make, read_response};
+use crate::elements::header::{
+    Header, MESSAGING, read_ack, read_identifier, read_numbered, read_pending,
+};
+use crate::elements::lifecycle::{
+    CONNECTION, Lifecycle, read_create, read_finish, read_make, read_response,
+};
 use rm_base::{Blob, MAX_NUMBER};
 use soap_document::profile::{Element, Item, Name};
 use soap_values::{Flaw, is_named};

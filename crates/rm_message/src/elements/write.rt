@@ -49,11 +49,13 @@ ghost use Rattle.rm_message.specs.Elements.Texts.{
 };
 
 use crate::elements::header::{AckBlock, AckKind, Header, SeqHeader};
-use crate::elements::lifecycle::{CreateResponse, CreateSequence, Finish, Lifecycle, MakeConnection, Offer};
+use crate::elements::lifecycle::{
+    CreateResponse, CreateSequence, Finish, Lifecycle, MakeConnection, Offer,
+};
 use crate::elements::tag::Tag;
-use rm_sides::ranges::Range;
 use itoa::Buffer;
 use rm_base::{Behaviour, Blob, Ident, Lapse, Memory, Uri};
+use rm_sides::ranges::Range;
 use soap_writer::nodes::{
     push_attribute, push_begin, push_close, push_leaf, push_number, push_start, push_void,
 };

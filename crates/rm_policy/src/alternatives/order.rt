@@ -7,9 +7,9 @@ ghost use Rattle.std.specs.Ordering.{nat_cmp, ordering_then};
 ghost use Rattle.rm_policy.specs.Alternatives.Sets.{Rises, list_cmp};
 ghost use Rattle.rm_policy.specs.Alternatives.Terms.{term_cmp, assurance_place, bool_place};
 
+use crate::Assurance;
 use crate::alternatives::term::Term;
 use rm_base::Memory;
-use crate::Assurance;
 use soap_document::profile::Name;
 use std::cmp::Ordering;
 

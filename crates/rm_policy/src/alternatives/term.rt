@@ -1,6 +1,6 @@
 //! Assertions as terms, and their order.
-use rm_base::{Items, Memory};
 use crate::Assurance;
+use rm_base::{Items, Memory};
 use soap_document::profile::Name;
 
 /// An assertion: one of reliable messaging, by its assurance and whether messages are delivered in order, or another

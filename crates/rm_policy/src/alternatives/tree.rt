@@ -19,8 +19,8 @@ ghost use Rattle.rm_policy.specs.Alternatives.Tree.{policy_view, policies_view, 
 use crate::alternatives::kind::{Kind, kind_of};
 use crate::alternatives::policy::{Policies, Policy};
 use crate::alternatives::term::Term;
-use rm_base::Memory;
 use crate::{find_security, read_form, read_optional};
+use rm_base::Memory;
 use soap_document::is_white;
 use soap_document::profile::{Element, Item};
 use soap_values::Flaw;

@@ -2,12 +2,12 @@
 ghost use Rattle.rm_relay.specs.Word.Roles.{IsStrangeToTheOthers};
 ghost use Rattle.rm_relay.specs.Word.Word.{EachRelayKeepsItsWord};
 
-use rm_sides::ranges::ends_are_right;
 use record_batch::snapshot::laws::sets_unite;
 use rm_protocol::laws::{
     a_pair_tells, a_pair_turns, an_identifier_tells_its_node, two_made_nodes_are_a_pair,
     two_nodes_stay_a_pair, what_is_acknowledged_was_accepted, what_is_announced_stays,
 };
+use rm_sides::ranges::ends_are_right;
 
 /// What one node of a relay says is a stranger's message to each other node beside a neighbour that didn't say it.
 pub fn what_one_says_is_strange_to_the_others()

@@ -10,11 +10,11 @@ use node_laws::laws::{
     each_message_keeps_the_rules, there_are_own_terms, what_waits_keeps_the_rules,
 };
 use node_store::laws::a_journal_ends_with_its_batches;
-use rm_wire::read_laws::laws::{a_refusal_may_be_answered, what_is_read_may_be_written};
 use rm_base::Memory;
 use rm_disk::CrashDisk;
 use rm_node::Call;
 use rm_node::laws::the_reply_comes_first;
+use rm_wire::read_laws::laws::{a_refusal_may_be_answered, what_is_read_may_be_written};
 
 impl Actor {
     /// Does what is asked, at the node's clock. A tick sets the clock of a node that isn't down.

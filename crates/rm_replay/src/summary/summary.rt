@@ -11,8 +11,8 @@ ghost use Rattle.rm_replay.specs.Summary.Summary.{items_text, node_text, sequenc
 use node_tables::Tables;
 use node_tables::laws::{an_incoming_sequence_is_as_recorded, an_outgoing_sequence_is_as_recorded};
 use rm_base::{Blob, Memory, Payload};
-use rm_sides::destination::Incoming;
 use rm_script::report::{Place, push_consumed, push_in, push_item, push_out};
+use rm_sides::destination::Incoming;
 use rm_sides::source::Outgoing;
 
 /// Appends what the node with a number knows of each of its sequences, at a moment.

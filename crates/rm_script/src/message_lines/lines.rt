@@ -7,8 +7,8 @@ ghost use Rattle.rm_script.specs.MessageLines.Lines.{addressing_lines, header_li
 use crate::message_lines::body::{push_body, word};
 use crate::message_lines::values::{bool_word, push_escaped, push_final, push_kind, push_text};
 use rm_base::{Blob, Ident, Memory, Uri, push_decimal};
-use rm_message::elements::{AckBlock, SeqHeader};
 use rm_message::Message;
+use rm_message::elements::{AckBlock, SeqHeader};
 use std::alloc::Global;
 
 fn push_text_of(out: &mut Blob, word: &[u8], value: &Option<Uri>) -> Result<(), Memory>

@@ -4,9 +4,9 @@ ghost use Rattle.hex.specs.Hex.{upper_digits};
 ghost use Rattle.rm_script.specs.MessageLines.Lines.{is_plain, escaped_byte, escaped, text_line, bool_text};
 ghost use Rattle.rm_script.specs.MessageLines.Lines.{range_text, ranges_text, numbers_text, kind_text, final_text};
 
-use rm_sides::ranges::Range;
 use rm_base::{Blob, Memory, push_decimal};
 use rm_message::elements::AckKind;
+use rm_sides::ranges::Range;
 
 /// Appends bytes, each as it is or as `%` and two digits.
 pub(crate) fn push_escaped(out: &mut Blob, bytes: &[u8]) -> Result<(), Memory>

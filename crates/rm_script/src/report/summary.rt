@@ -4,9 +4,9 @@ ghost use Rattle.rm_script.specs.Report.Report.{out_text, in_text, counts_text, 
 ghost use Rattle.rm_script.specs.Report.Report.{consumed_text, receiving_text, sending_text};
 
 use crate::report::names::{behaviour_name, in_phase_name, out_phase_name};
-use rm_sides::ranges::Range;
 use rm_base::{Behaviour, Blob, Memory, push_decimal, push_hex};
 use rm_sides::destination::InPhase;
+use rm_sides::ranges::Range;
 use rm_sides::source::OutPhase;
 
 /// The number of a node, and the place of a sequence among those of the node, counted from 1.

@@ -10,9 +10,9 @@ ghost use Rattle.rm_sides.specs.Source.Outgoing.{Sequence, no_room, accepted_cou
 ghost use Rattle.rm_sides.specs.Source.Outgoing.{count_refusal, accept_refusal, learn_refusal, with_payload, with_acked};
 ghost use Rattle.rm_sides.specs.Source.Outgoing.{settled, with_dropped};
 
+use crate::ranges::{RangeSet, ends_are_right};
 use crate::source::error::SourceError;
 use crate::source::phase::OutPhase;
-use crate::ranges::{RangeSet, ends_are_right};
 use rm_base::limits::WINDOW;
 use rm_base::{Blob, MAX_NUMBER, Memory, RoomyItems};
 use std::alloc::Global;

@@ -29,13 +29,13 @@ ghost use Rattle.rm_wire.specs.Soap11.Lift.{
 ghost use Rattle.rm_wire.specs.Soap11.Lower.{lowered, MayBeLowered};
 ghost use Rattle.rm_wire.specs.Soap11.Spells11.{Spells11};
 
-use message_writer::header_blocks_are_read_back;
-use crate::read_laws::laws::{
-    what_is_read_may_be_written, what_is_read_stands, what_was_read_keeps_the_rules,
-};
 use crate::laws::{
     a_payload_is_read_behind_the_blocks, what_is_lowered_is_read, what_is_written_is_read,
 };
+use crate::read_laws::laws::{
+    what_is_read_may_be_written, what_is_read_stands, what_was_read_keeps_the_rules,
+};
+use message_writer::header_blocks_are_read_back;
 use soap_envelope::frame::laws::{
     content_is_read_where_more_is_bound, declaring_body_is_body, tagged_frame_is_an_envelope,
 };

@@ -8,11 +8,11 @@ ghost use Rattle.soap_document.specs.Profile.Fed.{IsReady, WasFed, total};
 ghost use Rattle.soap_document.specs.Profile.Tree.{Element as Tree};
 ghost use Rattle.soap_document.specs.Profile.View.{element_view};
 
+use crate::Reader;
+use crate::laws::{document_is_read, document_is_utf8, pieces_are_joined};
 use crate::profile::read::Placed;
 use crate::profile::resolver::{Resolver, root_read};
 use rm_base::Memory;
-use crate::Reader;
-use crate::laws::{document_is_read, document_is_utf8, pieces_are_joined};
 use std::alloc::Global;
 
 /// A reader of a document that is fed its bytes in pieces, and makes its tree meanwhile. It keeps the tree so far, and

@@ -35,8 +35,8 @@ use crate::profile::recent::Recent;
 use crate::profile::scope::Scope;
 use crate::profile::shared::Shared;
 use crate::profile::tree::{Attr, Declaration, Item};
-use rm_base::{Bytes, Memory};
 use crate::{WrittenAttribute, cut};
+use rm_base::{Bytes, Memory};
 use std::alloc::Global;
 
 /// The namespace that the prefix `xml` is bound to: Namespaces in XML 1.0, section 3.

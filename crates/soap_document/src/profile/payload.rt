@@ -10,13 +10,13 @@ ghost use Rattle.soap_document.specs.Profile.Payload.{depth, height, is_white_ou
 ghost use Rattle.soap_document.specs.Profile.Resolving.{Stands, open_count, root_view};
 ghost use Rattle.soap_document.specs.Profile.View.{element_view, parts_view};
 
+use crate::laws::{content_makes_a_document, document_is_read, pieces_are_joined};
 use crate::profile::place::Place;
 use crate::profile::resolver::{Resolver, Root, root_read};
 use crate::profile::tree::{Element, Item};
+use crate::{Reader, is_white};
 use rm_base::Memory;
 use rm_base::limits::CONTENT_DEPTH;
-use crate::laws::{content_makes_a_document, document_is_read, pieces_are_joined};
-use crate::{Reader, is_white};
 use std::alloc::Global;
 
 /// Whether the bytes are content that is closed under its own declarations: well formed within the profile between a

@@ -14,8 +14,8 @@ use crate::profile::scope::Scope;
 use crate::profile::shared::Shared;
 use crate::profile::tag::resolved_tag;
 use crate::profile::tree::{Element, Item};
-use rm_base::{Bytes, Memory};
 use crate::{Handler, Reader, WrittenAttribute};
+use rm_base::{Bytes, Memory};
 use std::alloc::Global;
 use std::mem;
 

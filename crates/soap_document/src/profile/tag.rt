@@ -8,13 +8,13 @@ ghost use Rattle.soap_document.specs.Profile.Scope.{InForce};
 ghost use Rattle.rm_base.specs.declared.message.Binding.{Binding};
 ghost use Rattle.soap_document.specs.Profile.View.{element_view, items_view, decls_view};
 
+use crate::WrittenAttribute;
 use crate::profile::names::{
     are_distinct, are_distinct_names, are_many_bare, declarations, element_name, expanded,
 };
 use crate::profile::scope::Scope;
 use crate::profile::tree::{Element, Item};
 use rm_base::Memory;
-use crate::WrittenAttribute;
 use std::alloc::Global;
 
 /// Enters the element, which has no parts yet; what it has goes into the vector without items. None where a rule is

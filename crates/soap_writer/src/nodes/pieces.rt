@@ -4,9 +4,9 @@ ghost use Rattle.soap_lex.specs.Escapes.{escaped_text};
 ghost use Rattle.soap_writer.specs.Steps.{Grows};
 ghost use Rattle.soap_writer.specs.Nodes.Node.{note_text, begin_text, close_text, plain, declared};
 
+use crate::{push_bytes, push_quoted, push_text};
 use itoa::Buffer;
 use rm_base::Memory;
-use crate::{push_bytes, push_quoted, push_text};
 
 /// Appends the front of a start tag with this written name.
 #[tactic(auto, unfolding(crate::specs::Nodes::Node::begin_text))]

@@ -1,9 +1,9 @@
 //! What the rows of a table need: the parts of records, and the bytes of a batch both ways.
-use rm_sides::ranges::RangeSet;
 use node_laws::sizes::batch_len;
 use node_laws::sizes::laws::a_batch_that_fits_is_short;
 use record_batch::{BatchError, Record, read_batch, write_batch};
 use rm_base::{Blob, Ident, Items, Lapse, Payload, Uri};
+use rm_sides::ranges::RangeSet;
 use soap_document::profile::Elements;
 use std::alloc::Global;
 use std::test::Fail;

@@ -9,9 +9,9 @@ ghost use Rattle.timers.specs.Keys.Keyed.{keys_in};
 ghost use Rattle.timers.specs.Keys.Waits.{Wait, begun, due_at, fresh, keys_of, same_key, sent, urged, without};
 
 use crate::keys::cells::{Cell, find, place_of, put};
+use crate::slots::{Key, Timers, live_is_waiting};
 use rm_base::Memory;
 use rm_base::limits::MOST_KEYS;
-use crate::slots::{Key, Timers, live_is_waiting};
 use std::alloc::Global;
 use std::marker::Model;
 

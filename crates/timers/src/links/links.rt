@@ -14,7 +14,9 @@ ghost use Rattle.timers.specs.Links.Items.{
   due_count,
 };
 
-use crate::links::nodes::{Node, alone, count_due, first_of_list, free_all, item_of, shift, step_on};
+use crate::links::nodes::{
+    Node, alone, count_due, first_of_list, free_all, item_of, shift, step_on,
+};
 use crate::links::steps::Steps;
 use rm_base::Memory;
 use std::alloc::Global;

@@ -18,8 +18,8 @@ ghost use Rattle.timers.specs.Slots.Table.{
 };
 ghost use Rattle.timers.specs.Slots.Waits.{due_in};
 
-use crate::slots::timers::Key;
 use crate::links::{Links, Steps};
+use crate::slots::timers::Key;
 use rm_base::Memory;
 use rm_base::limits::MOST_KEYS;
 use std::alloc::Global;

@@ -16,11 +16,11 @@ ghost use Rattle.timers.specs.Slots.Waits.{
   due_at,
 };
 
+use crate::links::Links;
 use crate::slots::table::{
     Cell, blank_cells, find_due, free_slots, key_of, pop_slot, push_slot, put_new, shift,
     shift_due, take_out,
 };
-use crate::links::Links;
 use rm_base::Memory;
 use rm_base::limits::MOST_KEYS;
 use std::alloc::Global;

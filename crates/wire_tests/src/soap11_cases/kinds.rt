@@ -2,13 +2,13 @@
 //! are those of WS-ReliableMessaging 1.2, section 4, WS-Addressing 1.0 SOAP Binding, section 6, and WS-MakeConnection
 //! 1.1, section 4; the reasons are ours.
 use crate::soap11_cases::forms::{START11, is_text, joined, lowered};
-use rm_sides::ranges::Range;
 use message_writer::fault_message;
 use rm_base::{Blob, Ident, Memory, TextError, Uri};
 use rm_message::elements::{AckBlock, AckKind, Ranges};
 use rm_message::{Body, FaultBody, FaultCode, FaultKind, Message, Names, Refusal};
-use soap_document::profile::{Elements, Name, Shared};
+use rm_sides::ranges::Range;
 use rm_wire::soap11::decode11;
+use soap_document::profile::{Elements, Name, Shared};
 use std::alloc::Global;
 use wsa_headers::Epr;
 

@@ -3,8 +3,8 @@ use crate::soap11_cases::forms::{START11, joined, kind_of};
 use rm_base::{Binding, Memory, Payload};
 use rm_message::elements::SeqHeader;
 use rm_message::{Body, FaultBody, FaultCode, FaultKind, Message};
-use soap_document::profile::Name;
 use rm_wire::soap11::decode11;
+use soap_document::profile::Name;
 use std::alloc::Global;
 use wsa_headers::Addressing;
 

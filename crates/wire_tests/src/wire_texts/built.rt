@@ -1,10 +1,10 @@
 //! The acknowledgement of the first message of a sequence, from its values to its text and back.
 use crate::wire_texts::forms::{START, written};
-use rm_sides::ranges::Range;
 use message_reader::decode;
 use rm_base::{Blob, Ident, Memory, TextError, Uri};
 use rm_message::elements::{AckBlock, AckKind, Ranges};
 use rm_message::{Acks, Body, Idents, Message, Names};
+use rm_sides::ranges::Range;
 use soap_document::profile::Elements;
 use std::alloc::Global;
 use wsa_headers::Addressing;

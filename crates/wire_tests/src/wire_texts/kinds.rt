@@ -1,11 +1,11 @@
 //! The faults that refusals of each kind are answered with: SOAP 1.2 Part 1, section 5.4, WS-Addressing 1.0 SOAP
 //! Binding, section 6, WS-ReliableMessaging 1.2, section 4, and WS-MakeConnection 1.1, section 4. The reasons are ours.
 use crate::wire_texts::forms::{is_written, written};
-use rm_sides::ranges::Range;
 use message_writer::fault_message;
 use rm_base::{Blob, Ident, Memory, TextError, Uri};
 use rm_message::elements::{AckBlock, AckKind, Ranges};
 use rm_message::{FaultKind, Names, Refusal};
+use rm_sides::ranges::Range;
 use soap_document::profile::{Elements, Name, Shared};
 use std::alloc::Global;
 use wsa_headers::Epr;
