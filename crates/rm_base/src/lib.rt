@@ -1,9 +1,11 @@
-//! What every crate of wsrm stands on: bytes and lists that contracts see as lists, payloads, addresses, identifiers,
-//! printing in digits, and the traits through which a program reaches the outside: `Source`, `Sink`, `Connection`,
-//! `Clock`. It stands on the classes of characters, `xml_chars`. The layer above may use the types as the lists that
-//! they are seen as, and of a source or a sink its count of faults, and what it has left or holds where it tells that.
-//! What the definitions mean stands in `laws`; lemmas that the layers above use stand in `specs/`, in the files that
-//! are named so.
+//! What every crate of wsrm shares: bytes, lists, texts, limits, and the traits by which a program reaches the outside.
+//! `Blob` and `Bytes` are bytes, `Items` is a list, `Uri` an address, `Ident` an identifier.
+//! `Source`, `Sink`, `Connection` and `Clock` are the traits of the outside.
+//! `MemSource`, `MemSink`, `MemConn` and `MemClock` are in memory, `StdSource`, `StdSink` and `StdClock` over std.
+//! `read_up_to` and `write_all` move whole texts.
+//! - `limits`: each limit of a node once for the code; `specs/Limits` has the same numbers for definitions.
+//! - `wire`: the network between the nodes of a script, which keeps every packet: the trait `Wire`, and `MemWire`.
+//! - `words`: the words that a program was given.
 #![tactic(auto)]
 
 pub mod blob;

@@ -1,6 +1,6 @@
 //! The network between nodes, which keeps every packet that was ever sent: the trait `Wire`, and `MemWire`, a wire in
-//! memory. It stands on rm_base. The layer above may use of a wire the list of all packets, each with the node that it
-//! goes to; a packet for which the wire has no room is lost.
+//! memory. Contracts see a wire as the list of all packets, each with the node that it goes to. A packet for which the
+//! wire has no room is lost.
 
 pub mod laws;
 pub mod mem;

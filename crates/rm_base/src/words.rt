@@ -1,4 +1,4 @@
-//! The words that a program was given. It stands on `rm_base` alone; each program that takes words uses it.
+//! The words that a program was given.
 
 ghost use Rattle.std.specs.Prelude.{◌≡◌, drop};
 

@@ -1,6 +1,6 @@
-//! A disk that is a file of the system, `wsrm.journal` in the current folder: `Disk` of `rm_disk` over the calls of
-//! std. It tells nothing of its content, and counts its faults; beside them it keeps what failed last, which the layer
-//! above may tell its user. `FileReader` reads the same file beside a process that has it, and changes nothing.
+//! A disk that is a file of the system, `wsrm.journal` in the current folder: `Disk` over the calls of std. It tells
+//! contracts nothing of its content, and counts its faults; beside them it keeps what failed last, for the user to be
+//! told. `FileReader` reads the same file beside a process that has it, and changes nothing.
 
 mod fault;
 mod file;

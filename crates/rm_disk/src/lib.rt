@@ -1,8 +1,9 @@
-//! A disk that may lose what wasn't synced: the traits `Disk` and `CrashDisk`, whose contracts say what a read gives,
-//! what a crash may leave now and might have left at each moment, and why a call fails; and `MemDisk`, a disk in
-//! memory that can be told to fail and to crash. It stands on rm_base. The layer above may use of a disk the list of
-//! its calls (what a read gives and the images follow from it), its fuse, its count of faults and what is spare; and of
-//! images the laws, whose lemmas stand in specs/ImageLemmas.
+//! A disk that may lose what wasn't synced, and the journal of entries that a node keeps on it.
+//! `Disk` is its trait. A `CrashDisk` can be told to fail and to crash; `MemDisk` is one in memory.
+//! Contracts see a disk as the list of its calls: what a read gives and what a crash may leave follow from it.
+//! - `journal`: the list of entries on a disk, `Journal`. After a crash it has all of an entry or nothing of it.
+//! - `file`: the file `wsrm.journal` in the current folder as a disk, `FileDisk`, and as another program reads it.
+//! The laws of `laws` and `journal::laws` have their lemmas in `specs/ImageLemmas` and `specs/Journal/EntryLemmas`.
 #![tactic(auto)]
 
 pub mod disk;

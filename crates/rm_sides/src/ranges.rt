@@ -1,6 +1,5 @@
-//! Sets of message numbers as ranges that rise with gaps between them, as acknowledgements name them.
-//! It stands on the numbers of `rm_base`. The layer above may see a `RangeSet` as its canonical list of ranges, which
-//! its numbers determine, and beside it how many more ranges it has room for.
+//! Sets of message numbers as ranges that rise with gaps between them, as acknowledgements name them. Contracts see a
+//! `RangeSet` as its canonical list of ranges, which its numbers determine, and how many more ranges it has room for.
 
 mod laws;
 mod merge;

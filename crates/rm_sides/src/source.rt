@@ -1,7 +1,6 @@
 //! The source's side of one sequence: the payloads that it accepted, by number, and the numbers that it knows to be
-//! acknowledged. It stands on rm_base and ack_ranges. The layer above may use `Outgoing`, which contracts see as what
-//! is known of the sequence with the room for more beside it, the exact reasons for which a payload or an
-//! acknowledgement is refused, and the laws.
+//! acknowledged. Contracts see `Outgoing` as what is known of the sequence with the room for more beside it. They say
+//! exactly for which reasons a payload or an acknowledgement is refused.
 
 pub mod error;
 pub mod laws;

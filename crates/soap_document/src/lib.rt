@@ -1,8 +1,8 @@
-//! Documents as they are written: a reader that is fed a document's bytes in pieces tells a handler of its elements,
-//! their names with their prefixes. It stands on `soap_lex`, for the tests of tokens and for the readers of text and of
-//! values, which its own reader holds. The layer above resolves the names and makes the tree; what it may use is the
-//! contract of `Reader`, by the machine in `specs/Machine`, the law that joins the machine and the grammar in
-//! `specs/Grammar`, and the other laws.
+//! XML documents, read: as they are written, and as trees with expanded names.
+//! `Reader` is fed the bytes in pieces, and tells a `Handler` of each tag and text. It follows the machine in
+//! `specs/Machine`, and a law joins that to the grammar in `specs/Grammar`.
+//! - `profile`: names resolved by the declarations in force. Its `DocumentReader` makes the tree of a document that
+//!   comes in pieces, `read_element` that of whole bytes, and `check_payload` tests what a message may carry.
 #![tactic(auto)]
 
 pub mod attribute;

@@ -1,6 +1,5 @@
-//! Documents with expanded names: the bytes of a whole document to a tree, the tree without its declarations, and the
-//! test of a payload. It stands on documents as they are written, `soap_document`. The layers above may use the trees
-//! and the contracts of the readers, by `specs/Document` and `specs/Payload`.
+//! Documents with expanded names: the tree of a whole document's bytes (`specs/Profile/Document`), the tree without its
+//! declarations, and the test of a payload (`specs/Profile/Payload`).
 
 mod copies;
 pub mod document;

@@ -1,7 +1,6 @@
 //! The frame of an envelope, to bytes, and the law that what is written in it is read back as an envelope: its header
-//! blocks, the exact bytes of its payload, and the bindings in force at both. It stands on `soap_envelope` and
-//! `soap_writer`. The layer above may use the contracts of the pieces and the laws, by `specs/Framed`, and
-//! for a Body with a start tag of its own by `specs/Tagged`, `specs/BodyTag` and `specs/Covers`.
+//! blocks, the exact bytes of its payload, and the bindings in force at both. `specs/Frame/Framed` has its text, and
+//! `Tagged`, `BodyTag` and `Covers` beside it that of a Body with a start tag of its own.
 
 pub mod frame;
 pub mod laws;

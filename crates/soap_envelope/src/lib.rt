@@ -1,6 +1,7 @@
-//! Envelopes of SOAP, read from bytes: the header blocks, and the payload as the exact bytes between Body's tags,
-//! each with the bindings in force there. It stands on documents with expanded names, `soap_document::profile`. The layer above
-//! may use the envelope and the contract of `read_envelope`, by `specs/Envelope`, and the laws.
+//! Envelopes of SOAP, read from bytes, and the frame of one, written.
+//! `read_envelope` answers an `Envelope`: its header blocks, and the exact bytes between Body's tags, each with the
+//! bindings in force there. `specs/Envelope` says which bytes are an envelope.
+//! - `frame`: the tags around header blocks and a payload, written so that they are read back as they were.
 #![tactic(auto)]
 
 pub mod envelope;

@@ -1,6 +1,7 @@
-//! The characters, names, references, text and attribute values of XML 1.0, as bytes: tests of whole tokens, and
-//! readers and writers of text. It stands on the classes of characters, `xml_chars`. The layer above cuts the bytes
-//! into tokens at ASCII delimiters and asks these tests of each. It may use their contracts, and what `specs/` says.
+//! The tokens of XML 1.0, as bytes: names, references, text and attribute values.
+//! Whole tokens are tested (`is_name`, `is_char_data` ..), by readers that cut the bytes at delimiters of ASCII.
+//! `TextReader` and `ValueReader` read text and values that come in pieces; `read_text` and `read_attr` one at a place.
+//! `write_text` and `write_attr` write them, and what is written is read back (`laws`).
 #![tactic(auto)]
 
 pub(crate) mod decide;

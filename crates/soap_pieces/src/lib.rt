@@ -1,7 +1,7 @@
-//! Envelopes, read while they come: a reader that is fed pieces, says when no envelope begins with what it was fed, and
-//! answers at the end what `soap_envelope` answers of all pieces joined. It stands on that crate, and on the machine of
-//! `soap_document` for the former. The layer above may use its contracts, by `specs/Fed`, `specs/Source` and
-//! `specs/Answer`, and the laws.
+//! Envelopes, read while they come: `EnvelopeReader` is fed pieces, and answers at the end what `read_envelope` answers
+//! of all pieces joined. `is_dead` tells early that no envelope begins with what was fed.
+//! `read_source` feeds such a reader from a `Source`, to the end of the root.
+//! `specs/Fed` says what a reader was fed, `specs/Source` what a source gave, `specs/Answer` what comes of it.
 #![tactic(auto)]
 
 mod depth;

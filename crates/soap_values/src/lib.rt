@@ -1,8 +1,6 @@
-//! What an element has, as values: its children by name, its text, the values of its attributes, and numbers, marks,
-//! texts and names in them. It stands on trees with expanded names, `soap_document::profile`. Readers of header blocks, elements
-//! and assertions may use the contracts, by `specs/`: each says what is read as a function of the tree, and that want
-//! of memory is the only other answer. Lemmas on those functions stand beside them, in `specs/ChildLaws`, `EachLaws`,
-//! `TextLaws`, `NumberLaws` and `TrimLaws`.
+//! What an element has, as values: children by name, text, attributes, numbers, marks, addresses and names in values.
+//! `find_single` and its like find children, `read_text`, `read_number`, `read_qname` .. read what they hold.
+//! Each is a function of the tree (`specs/`); want of memory is the only other answer.
 #![tactic(auto)]
 
 pub mod children;

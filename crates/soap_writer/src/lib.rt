@@ -1,6 +1,8 @@
-//! Elements, to bytes: an element is written so that it stands on its own, with each namespace declared where it is
-//! used, and is read back as it was. It stands on the trees of `soap_document::profile` and the escapes of `soap_lex`. The layers
-//! above may use the contracts of the writer and of the pieces of `text`, and the laws, by `specs/`.
+//! Elements, written so that they are read back as they were.
+//! `write_element` writes one that stands on its own, with each namespace declared where it is used. The pieces of
+//! `text` append bytes, text and values.
+//! - `nodes`: elements within the frame of an envelope, by the prefixes that it binds: what writers of headers append.
+//! - `stripped`: laws alone: an element of a document, without its declarations, may be written.
 #![tactic(auto)]
 
 pub mod element;

@@ -1,6 +1,5 @@
-//! Elements within a frame, with the prefixes that it binds, to bytes: the pieces that their writers append, and the
-//! law that what is written is read back exactly, whatever the namespace of SOAP. It stands on `soap_writer`.
-//! The layers above may use the nodes of `specs/Node`, the contracts of the pieces, and the laws.
+//! Elements within a frame, by the prefixes that it binds, to bytes: the pieces that their writers append, and the law
+//! that what is written is read back exactly, whatever the namespace of SOAP. `specs/Nodes` has the nodes.
 
 pub mod laws;
 pub mod pieces;

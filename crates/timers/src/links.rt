@@ -1,6 +1,6 @@
-//! Lists of items, doubly linked by index in one table of slots, with a bound on the steps of each call.
-//! It stands on `rm_base` for want of memory alone. The layer above may see `Links` as lists of items beside the
-//! numbers of slots and of spare slots, and a `Steps` as how many slots were read or written since it was made.
+//! Lists of items, doubly linked by index in one table of slots, with a bound on the steps of each call. Contracts see
+//! `Links` as lists of items beside the numbers of slots and of spare slots, and a `Steps` as how many slots were read
+//! or written since it was made.
 
 mod laws;
 mod links;

@@ -1,6 +1,6 @@
 //! The messages that wait at a node for peers that nobody can reach, until they are asked for: WS-MakeConnection 1.1.
-//! It stands on lists linked by index, `links`. The layer above may see `Pending` as queues of packets, one for an
-//! address, and a count of what was dropped, beside the addresses for which room was made.
+//! Contracts see `Pending` as queues of packets, one for an address, and a count of what was dropped, beside the
+//! addresses for which room was made.
 
 mod laws;
 mod named;

@@ -1,6 +1,6 @@
-//! The keys that wait to be emitted, in seven classes of growing delay, each in the order of the last move.
-//! It stands on lists linked by index, `links`. The layer above may see `Timers` as standing for one plain list of
-//! entries, in the order of the last move; a slot that it keeps stays that of its key through every move.
+//! The keys that wait to be emitted, in seven classes of growing delay, each in the order of the last move. Contracts
+//! see `Timers` as one plain list of entries, in the order of the last move; a slot stays that of its key through every
+//! move.
 
 mod laws;
 mod table;

@@ -1,5 +1,6 @@
-//! The classes of characters of XML 1.0: what a document may hold, white space, and what begins and goes on a name.
-//! It stands on nothing. The layers above may ask of a character whether it is in a class.
+//! The classes of characters of XML 1.0, each as a test of one character or byte.
+//! `is_char` tells what a document may hold, `is_space` what is white space.
+//! `is_name_start` and `is_name_char` tell what may begin a name and what may go on in one.
 #![tactic(auto)]
 
 ghost use Rattle.std.specs.Prelude.{◌≡◌};

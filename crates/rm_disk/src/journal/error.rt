@@ -1,7 +1,8 @@
 //! Why a call on a journal fails.
 
 ghost use Rattle.std.specs.Prelude.{◌≡◌};
-ghost use Rattle.rm_disk.specs.declared.journal.error.JournalError.TheVariants.{Memory as WantsMemory, Disk as DiskFails};
+ghost use Rattle.rm_disk.specs.declared.journal.error.JournalError.TheVariants.{Memory as WantsMemory};
+ghost use Rattle.rm_disk.specs.declared.journal.error.JournalError.TheVariants.{Disk as DiskFails};
 
 use rm_base::{Failed, Memory};
 use std::alloc::{AllocError, AllocFailed};

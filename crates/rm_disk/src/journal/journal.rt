@@ -8,9 +8,11 @@ ghost use Rattle.rm_disk.specs.Call.{settled, state, seen_of, crashes_of};
 ghost use Rattle.rm_disk.specs.Cause.{HasCause};
 ghost use Rattle.rm_disk.specs.Fuse.{Burns};
 ghost use Rattle.rm_disk.specs.Image.{MayLeave, OnlyLeaves};
-ghost use Rattle.rm_disk.specs.Journal.Entries.{AllFit, bytes_of, first_bytes, list_of as list_in, StandsAsBefore, StandsAt};
+ghost use Rattle.rm_disk.specs.Journal.Entries.{AllFit, bytes_of, first_bytes, list_of as list_in, StandsAsBefore};
+ghost use Rattle.rm_disk.specs.Journal.Entries.{StandsAt};
 ghost use Rattle.rm_disk.specs.Journal.Entries.{StandsFor, StandsForEither, StandsForOneOf};
-ghost use Rattle.rm_disk.specs.declared.journal.error.JournalError.TheVariants.{Memory as WantsMemory, Disk as DiskFails};
+ghost use Rattle.rm_disk.specs.declared.journal.error.JournalError.TheVariants.{Memory as WantsMemory};
+ghost use Rattle.rm_disk.specs.declared.journal.error.JournalError.TheVariants.{Disk as DiskFails};
 ghost use Rattle.rm_disk.specs.declared.journal.error.JournalError.TheVariants.{NotAJournal, Down as IsDown};
 
 use crate::Disk;
@@ -51,7 +53,8 @@ impl Journal {
     ghost use Rattle.rm_disk.specs.Journal.JournalState.{JournalState, end_of, journal_of};
     ghost use Rattle.rm_disk.specs.Journal.Journal.{Fits, FitsUnlessDown, Answers, AnswersImport, refusal_of, is_disk};
     ghost use Rattle.rm_disk.specs.Journal.Journal.{is_memory};
-    ghost use Rattle.rm_disk.specs.Journal.Journal.{with_block, appended, after_reading, compacted, next_bank, with_list};
+    ghost use Rattle.rm_disk.specs.Journal.Journal.{with_block, appended, after_reading, compacted, next_bank};
+    ghost use Rattle.rm_disk.specs.Journal.Journal.{with_list};
     ghost use Rattle.rm_disk.specs.Journal.Journal.{list_refusal as list_refusal_of, fits_before as fits_before_of};
     ghost use Rattle.rm_disk.specs.Journal.Journal.{place_for as place_of};
 

@@ -7,7 +7,8 @@ ghost use Rattle.rm_disk.specs.Cause.{HasCause};
 ghost use Rattle.rm_disk.specs.Fuse.{Burns};
 ghost use Rattle.rm_disk.specs.Journal.Entries.{gates_from, first_of};
 ghost use Rattle.rm_disk.specs.Journal.Journal.{is_disk, is_memory};
-ghost use Rattle.rm_disk.specs.declared.journal.error.JournalError.TheVariants.{Memory as WantsMemory, Disk as DiskFails};
+ghost use Rattle.rm_disk.specs.declared.journal.error.JournalError.TheVariants.{Memory as WantsMemory};
+ghost use Rattle.rm_disk.specs.declared.journal.error.JournalError.TheVariants.{Disk as DiskFails};
 
 use crate::Disk;
 use crate::journal::JournalError;

@@ -7,7 +7,8 @@ ghost use Rattle.rm_sides.specs.Ranges.Changes.{covers_all};
 ghost use Rattle.rm_base.specs.Message.{max_number};
 ghost use Rattle.rm_sides.specs.Source.Laws.{IsSound};
 ghost use Rattle.rm_sides.specs.Source.Outgoing.{Sequence, no_room, accepted_count, payload_at, unacked_of};
-ghost use Rattle.rm_sides.specs.Source.Outgoing.{count_refusal, accept_refusal, learn_refusal, with_payload, with_acked};
+ghost use Rattle.rm_sides.specs.Source.Outgoing.{count_refusal, accept_refusal, learn_refusal, with_payload};
+ghost use Rattle.rm_sides.specs.Source.Outgoing.{with_acked};
 ghost use Rattle.rm_sides.specs.Source.Outgoing.{settled, with_dropped};
 
 use crate::ranges::{RangeSet, ends_are_right};

@@ -1,7 +1,8 @@
 //! Whole documents, read.
 ghost use Rattle.std.specs.Prelude.{◌≡◌, ◌≢◌, ◌↔◌, ℕ, IfOk, IfSome, IfNone, Err};
 ghost use Rattle.std.specs.Str.{IsUtf8};
-ghost use Rattle.soap_document.specs.Profile.Document.{Document, IsPlaced, IsReadable, IsTooLong, IsTextUpTo, HasNoTree};
+ghost use Rattle.soap_document.specs.Profile.Document.{Document, IsPlaced, IsReadable, IsTooLong, IsTextUpTo};
+ghost use Rattle.soap_document.specs.Profile.Document.{HasNoTree};
 ghost use Rattle.soap_document.specs.Profile.Tree.{Element as Tree};
 ghost use Rattle.soap_document.specs.Profile.View.{element_view};
 

@@ -21,7 +21,8 @@ ghost use Rattle.soap_writer.specs.ReadBack.{ContentReadsAs, content_of, IsAttri
 ghost use Rattle.soap_envelope.specs.Frame.BodyTag.{declaration, AreApart, MayBeDeclared, body_name, body_bindings};
 ghost use Rattle.soap_envelope.specs.Frame.Covers.{Covers};
 ghost use Rattle.soap_envelope.specs.Frame.Tagged.{tagged_text, tagged_envelope};
-ghost use Rattle.soap_envelope.specs.Frame.Framed.{Block, IsBlock, MayBeSoap, bytes_of, trees_of, framed_text, framed_envelope};
+ghost use Rattle.soap_envelope.specs.Frame.Framed.{Block, IsBlock, MayBeSoap, bytes_of, trees_of, framed_text};
+ghost use Rattle.soap_envelope.specs.Frame.Framed.{framed_envelope};
 
 use soap_writer::laws::{attributes_are_read_back, content_is_read_back};
 
