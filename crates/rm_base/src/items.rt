@@ -94,7 +94,8 @@ impl<T> Items<T> {
     }
 }
 
-/// The item with a number, counted from 1, as the messages of a sequence are numbered.
+/// The item with a number, counted from 1, as the messages of a sequence are numbered. There is none at 0 and past the
+/// end.
 pub fn numbered<T>(items: &[T], number: u64) -> Option<&T>
     ensures { option_copied result ≡ numbered items.now number }
 {
@@ -166,6 +167,7 @@ impl<T> RoomyItems<T> {
     }
 
     /// Puts an item at the end. Where there is room for one, it takes no memory.
+    /// - `spare`, `room_stays`: it takes at most one of what is spare, and after want of memory nothing less is spare.
     pub fn push(&mut self, item: T) -> Result<(), Memory>
     where
         T: Drop,

@@ -44,7 +44,8 @@ impl Model for MemSource {
 }
 
 impl MemSource {
-    /// A source that has these bytes left, and whose calls with these numbers fail, counted from 1.
+    /// A source that has these bytes left, and whose calls with these numbers fail, counted from 1. Reads and writes of
+    /// a connection are counted together.
     pub fn new(bytes: Blob, fail_at: Numbers) -> Self
         ensures { result ≡ record { left = bytes; fail_at = fail_at; calls = 0; faults = 0; taken = 0 } }
     {

@@ -16,6 +16,9 @@ pub trait Source {
     ghost told: { Self → Stream };
 
     /// Moves bytes into the buffer and answers their number: 0 at the end, or where the buffer is empty.
+    /// - `keeps`: what a connection holds as a sink stays.
+    /// - `lasts`: the count of faults never falls, and a source that tells that it is sound never fails.
+    /// - Failed: only where the count of faults rose in this call; nothing was moved (`failed`, `moved`).
     fn read(&mut self, buf: &mut [u8]) -> Result<usize, Failed>
         ensures bound { ReadsAtMost result buf.new }
         ensures moved { ReadConsumes (told self.old).left (told self.new).left result buf.new }
@@ -44,6 +47,10 @@ pub trait Sink {
     ghost wants_memory: { Bool } = { true };
 
     /// Takes the first bytes of a piece, and answers how many. An `Err` takes none.
+    /// - `keeps`: what a connection has left as a source stays.
+    /// - `lasts`: the count of faults never falls, and a sink that tells that it is sound never fails.
+    /// - Failed: only where the count of faults rose in this call; nothing was moved (`failed`, `moved`).
+    /// - Memory: only of a sink whose calls may want it; nothing was moved (`memory`, `moved`).
     fn write(&mut self, bytes: &[u8]) -> Result<usize, SinkError>
         ensures bound { WritesAtMost result bytes.now }
         ensures moved { WriteAppends (told self.old).held (told self.new).held result bytes.now }
@@ -66,6 +73,8 @@ pub trait Clock {
     ghost next: { Self → Option ℕ };
 
     /// The moment, in milliseconds since 1970 UTC.
+    /// - `within`: the moment is at most 200000000000000.
+    /// - `told`, `still`: where the clock tells a moment, that is the answer, and it stands there then.
     fn now(&mut self) -> u64
         ensures within { result ≤ now_max }
         ensures told { IfSome (next self.old) (λ moment. result ≡ moment) }

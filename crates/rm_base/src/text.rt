@@ -53,6 +53,9 @@ impl Model for Uri {
 
 impl Uri {
     /// A copy of these bytes, where they are such a text.
+    /// - Empty, TooLong, NotText: exactly with the first that holds of: no bytes; more than 2048, with how many; others
+    ///   than characters of XML 1.0 in UTF-8, or white space at an end (`err`, `is_text`).
+    /// - Memory: only where the bytes are such a text (`err`).
     pub fn from_slice(alloc: Global, bytes: &[u8]) -> Result<Self, TextError>
         ensures ok { IfOk result (λ uri. uri ≡ bytes.now) }
         ensures is_text { OnOk result (IsText 2048 bytes.now) }
@@ -119,6 +122,9 @@ impl Model for Ident {
 
 impl Ident {
     /// A copy of these bytes, where they are such a text.
+    /// - Empty, TooLong, NotText: exactly with the first that holds of: no bytes; more than 512, with how many; others
+    ///   than characters of XML 1.0 in UTF-8, or white space at an end (`err`, `is_text`).
+    /// - Memory: only where the bytes are such a text (`err`).
     pub fn from_slice(alloc: Global, bytes: &[u8]) -> Result<Self, TextError>
         ensures ok { IfOk result (λ ident. ident ≡ bytes.now) }
         ensures is_text { OnOk result (IsText 512 bytes.now) }

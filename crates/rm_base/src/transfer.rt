@@ -43,6 +43,10 @@ impl From<Failed> for ReadError {
 const PIECE: usize = 65536;
 
 /// Reads a source to its end, where it has at most `limit` bytes. At most `limit + 1` bytes are taken from it.
+/// - TooLong: of a source that tells what it has left, only where that is more than the limit, and of more no Ok comes
+///   (`too_long`, `longer`, `one_more`, `whole`, `within`).
+/// - Failed: only where the source's count of faults rose; no more than the limit and one byte was taken (`failed`,
+///   `stops`, `front`).
 pub fn read_up_to<S: Source>(alloc: Global, input: &mut S, limit: usize) -> Result<Blob, ReadError>
     requires { limit < 2 ^ 62 }
     ensures at_end { OnOk result (IsAtEnd (S.told input.new).left) }
@@ -77,6 +81,8 @@ pub fn read_up_to<S: Source>(alloc: Global, input: &mut S, limit: usize) -> Resu
 }
 
 /// Writes all bytes, piece by piece as the sink takes them. After an `Err` some first bytes were written.
+/// - Failed: only where the sink's count of faults rose; some first bytes were written (`failed`, `err`).
+/// - Memory: only of a sink whose calls may want memory; some first bytes were written (`memory`, `err`).
 pub fn write_all<K: Sink>(out: &mut K, bytes: &[u8]) -> Result<(), SinkError>
     ensures ok { OnOk result (Appends (K.told out.old).held (K.told out.new).held bytes.now) }
     ensures err { OnErr result (AppendsFront (K.told out.old).held (K.told out.new).held bytes.now) }

@@ -23,6 +23,9 @@ pub trait Disk {
     ghost spare: { Self → Spare };
 
     /// The number of bytes.
+    /// - `fuse`: on a disk that tells, each device call fails exactly where the fuse says.
+    /// - `cause`: on any disk, a device call fails only where the count of faults rose, and the count stays where it
+    ///   doesn't.
     fn len(&mut self) -> Result<u64, Failed>
         ensures gives { IsTrue tells → IfOk result (λ len. len ≡ length (seen_of (told self.old).past)) }
         ensures past { IsTrue tells → (told self.new).past ≡ (told self.old).past }
@@ -41,6 +44,7 @@ pub trait Disk {
         ensures spare { Spends 0 0 (spare self.old) (spare self.new) };
 
     /// Makes room for so many calls that change the disk, and so many bytes written by them. It is no device call.
+    /// - `covers`, `enough`: no device call that is covered takes memory; Ok comes where there is room already.
     fn reserve(&mut self, calls: u64, bytes: u64) -> Result<(), Memory>
         ensures covers { OnOk result (Covers (spare self.new) calls bytes) }
         ensures spare { Spends 0 0 (spare self.old) (spare self.new) }
@@ -50,6 +54,7 @@ pub trait Disk {
         ensures faults { (told self.new).faults ≡ (told self.old).faults };
 
     /// Writes over what is there, and past the end.
+    /// - `past`: `write_at`, `cut` and `sync` are one call more in the list of calls, or one that failed.
     fn write_at(&mut self, at: u64, bytes: &[u8]) -> Result<(), Failed>
         requires within { IsTrue tells → at ≤ length (seen_of (told self.old).past) }
         requires room { Covers (spare self.old) 1 (length bytes.now) }
@@ -93,6 +98,7 @@ pub trait CrashDisk: Disk {
     /// The machine stops and starts again, and no call fails from then on until an `arm`. Of what wasn't synced
     /// choice 0 keeps nothing and choice 1 all. Choice 2 leaves the greatest length and ones in the places that
     /// may hold anything, choice 3 the smallest length and zeros there. What was spare may be gone.
+    /// - `past`: where it wants memory nothing has changed.
     fn crash(&mut self, choice: u8) -> Result<(), Memory>
         requires { choice ≤ 3 }
         ensures past { (Self.told self.new).past

@@ -102,7 +102,7 @@ fn settle(synced: &mut Vec<u8>, file: &[u8], ranges: &[(usize, usize)], low: usi
 impl MemDisk {
     ghost use Rattle.rm_disk.specs.MemDisk.{past_of, fuse_of, faults_of, state_of};
 
-    /// A disk of no bytes. It takes no memory.
+    /// A disk of no bytes. It takes no memory. It has no fuse and no faults, tells and can crash.
     pub fn new(alloc: Global) -> Self
         ensures past { past_of result ≡ [] }
         ensures fuse { fuse_of result ≡ None }

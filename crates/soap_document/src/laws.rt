@@ -13,7 +13,8 @@ use soap_lex::laws::{
     comment_is_tested, text_is_read, text_is_taken, value_is_read, value_is_taken,
 };
 
-/// The root that the machine reads of bytes is their tree, where they have one.
+/// The root that the machine reads of bytes is their tree, where they have one. The trees are those of the productions
+/// of XML 1.0, at most 100 elements deep; of bytes that have none the machine reads none.
 pub fn document_is_read()
     ensures { (bytes : List ℕ) (root : Element)
         → IsDocument bytes root ↔ (root_of (run start bytes) ≡ Some root) }

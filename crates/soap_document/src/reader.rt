@@ -57,6 +57,10 @@ impl<H: Handler> Reader<H> {
     }
 
     /// Takes the next piece of the document. After an error the reader is of no more use.
+    /// - `sees`: the reader stands for the state that the machine goes on to, and its handler for the elements that are
+    ///   open there, however the pieces are cut.
+    /// - `told`: a handler is told no empty text, and of the end of an element only where one is open by what it was
+    ///   told.
     pub fn feed(&mut self, piece: &[u8]) -> Result<(), Memory>
         requires told { IsTold H.depth self.old }
         requires fits { fed_len self.old + length piece.now < 2 ^ 64 }

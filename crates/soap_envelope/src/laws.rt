@@ -29,7 +29,8 @@ pub fn one_envelope()
     one_tree();
 }
 
-/// No bytes are an envelope, an envelope of another version, or none, two at once.
+/// No bytes are an envelope, an envelope of another version, or none, two at once. So the refusals are exact but for
+/// want of memory.
 pub fn one_answer()
     ensures version { (soap bytes : List ℕ) (envelope : Envelope) → IsEnvelope soap bytes envelope
         → ¬ (WrongVersion soap bytes) }

@@ -33,6 +33,17 @@ pub fn is_soap11(soap: &[u8]) -> bool
 }
 
 /// The envelope that the bytes are, where SOAP has this namespace.
+/// - `ok`, `fits`: the bytes, at most 2097152 and UTF-8, are the envelope. It has the header blocks in order, the
+///   bindings in force between Header's tags, the exact bytes between Body's tags, the bindings in force there, and the
+///   parts that these bytes are, without Body's declarations and attributes. Scopes are sorted by prefix, without `xml`
+///   and without a default namespace that is undeclared.
+/// - TooLong, NotUtf8: exactly where the bytes are more than 2097152, with how many; where they aren't and are no
+///   UTF-8, with the length of the longest front that is (`too_long`, `not_utf8`).
+/// - NotProfile: exactly where neither holds and the bytes are no document (`not_profile`, `ok`, `fits`).
+/// - WrongVersion: exactly where the bytes are a document whose root is called Envelope in another namespace
+///   (`wrong_version`, `ok`).
+/// - NotEnvelope: exactly where they are one with another root, or with an Envelope that is not an optional Header and
+///   then one Body with white space between (`not_envelope`, `ok`).
 pub fn read_envelope_in(alloc: Global, bytes: &[u8], soap: &[u8]) -> Result<Envelope, EnvelopeError>
     // What is read.
     ensures ok { IfOk result (λ envelope. IsEnvelope soap.now bytes.now (envelope_view envelope)) }
@@ -72,7 +83,8 @@ pub fn read_envelope(alloc: Global, bytes: &[u8]) -> Result<Envelope, EnvelopeEr
 }
 
 /// The envelope of SOAP 1.2 that the document with this tree is, or why it is none: what `read_envelope` does behind
-/// the reading of the document. Of the bytes only the payload is looked at.
+/// the reading of the document. Of the bytes only the payload is looked at. WrongVersion and NotEnvelope come exactly
+/// as `read_envelope_in` answers them, and no other answer but Memory.
 pub fn envelope_of(
     alloc: Global,
     bytes: &[u8],

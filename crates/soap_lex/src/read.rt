@@ -74,6 +74,7 @@ fn name_chars_len(text: &str) -> usize
 
 /// Appends what the text at that place means, and gives its end: the next `<` that begins no CDATA section and no
 /// comment, or the end of the bytes. XML 1.0, section 2.4. After an error nothing is appended.
+/// - NotProfile: exactly where no text stands at the place (`found`, `only`).
 pub fn read_text(bytes: &[u8], at: usize, out: &mut Vec<u8>) -> Result<usize, LexError>
     requires { at ≤ length bytes.now }
     ensures found { IfOk result (λ end. ReadsText bytes.now at end out.old.items out.new.items) }
@@ -93,6 +94,7 @@ pub fn read_text(bytes: &[u8], at: usize, out: &mut Vec<u8>) -> Result<usize, Le
 
 /// Appends what the attribute value at that place means, a value in quotes, and gives the end of the closing quote.
 /// XML 1.0, section 2.3, production 10, and section 3.3.3. After an error nothing is appended.
+/// - NotProfile: exactly where no value in quotes stands at the place (`found`, `only`).
 pub fn read_attr(bytes: &[u8], at: usize, out: &mut Vec<u8>) -> Result<usize, LexError>
     requires { at ≤ length bytes.now }
     ensures found { IfOk result (λ end. ReadsValue bytes.now at end out.old.items out.new.items) }

@@ -75,6 +75,7 @@ impl TextReader {
     /// Reads on to the end of a token, or of the piece: appends what was read, and says how many bytes were taken.
     /// Where none of a piece is taken, the text ends there, or was refused. After an error the reader is of no more
     /// use.
+    /// - `ok`: text is read as by the machine of texts, however the pieces are cut.
     pub fn feed(&mut self, piece: &[u8], out: &mut Vec<u8>) -> Result<usize, Memory>
         ensures ok { IfOk result (λ n. (n ≤ length piece.now)
             × (to_stop (text_state self.old out.old.items) piece.now
@@ -115,6 +116,7 @@ impl TextReader {
 
     /// Appends what is still to be appended where the text ends, and says how many of the last bytes are no more of it;
     /// none where it was no text.
+    /// - None: exactly where the machine of texts takes what it was fed for no text (`ok`).
     pub fn finish(self, out: &mut Vec<u8>) -> Result<Option<usize>, Memory>
         ensures ok { IfOk result (λ end. counted (ended (text_state self out.old.items))
             ≡ option_map {U = List ℕ × ℕ} (λ n. (out.new.items, n)) end) }

@@ -100,6 +100,7 @@ impl ValueReader {
     /// Reads on to the end of a token, or of the piece: appends what was read, and says how many bytes were taken.
     /// Where none of a piece is taken, the value is closed, or was refused. After an error the reader is of no more
     /// use.
+    /// - `ok`: values are read as by the machine of values, however the pieces are cut.
     pub fn feed(&mut self, piece: &[u8], out: &mut Vec<u8>) -> Result<usize, Memory>
         ensures ok { IfOk result (λ n. (n ≤ length piece.now)
             × (to_stop (value_state self.old out.old.items) piece.now

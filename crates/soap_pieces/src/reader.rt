@@ -61,6 +61,12 @@ impl EnvelopeReader {
     }
 
     /// Takes the next piece of the envelope.
+    /// - `fed`, `total`: each piece is joined to what was fed before, up to 2^63 bytes, whatever else happens.
+    /// - `keeps`: never more than 2097152 bytes are kept, the payload of an envelope counted, also where memory ran
+    ///   out.
+    /// - `spent`: a dead reader keeps three bytes at most, unless memory ran out.
+    /// - `idle`: where no document begins with what was fed, nothing more is read as one, unless memory ran out.
+    /// - Memory: once it came, each later piece and the end answer it too (`err`, `short`).
     pub fn feed(&mut self, piece: &[u8]) -> Result<(), Memory>
         requires ready { IsReady self.old }
         requires fits { total self.old + length piece.now < 2 ^ 63 }
@@ -98,6 +104,7 @@ impl EnvelopeReader {
     }
 
     /// What `read_envelope` answers of all that was fed.
+    /// - Memory: exactly where a piece was answered so (`short`, `known`).
     pub fn finish(self) -> Result<Envelope, EnvelopeError>
         ensures reads { (bytes : List ℕ) → WasFed self bytes → is_short self ≡ false → Reads bytes result }
         ensures known { (bytes : List ℕ) → WasFed self bytes → is_short self ≡ false

@@ -17,6 +17,9 @@ const PIECE: usize = 65536;
 
 /// A reader that was fed a source to its end, where that has at most as many bytes as an envelope may have. At most one
 /// more is taken from it.
+/// - TooLong: of a source that tells what it has left, only where that is more than 2097152, and of more no Ok comes
+///   (`longer`, `fed`, `too_long`, `stops`).
+/// - Failed: only where the source's count of faults rose (`failed`, `stops`).
 pub fn read_source<S: Source>(alloc: Global, input: &mut S) -> Result<EnvelopeReader, ReadError>
     ensures fed { IfOk result (λ reader. HasTakenAll (S.told input.old) (S.told input.new) reader) }
     ensures short { IfOk result (λ reader. is_short reader ≡ false) }

@@ -26,7 +26,8 @@ fn named<'a>(item: &'a Item, space: &[u8], local: &[u8]) -> Option<&'a Element>
     }
 }
 
-/// The child of a name, of which there is one at most. It takes no memory.
+/// The child of a name, of which there is one at most. It takes no memory. Malformed exactly where two children have
+/// the name.
 #[tactic(auto, using(crate::specs::ChildLaws::children_more))]
 pub fn find_optional<'a>(
     items: &'a [Item],
@@ -48,7 +49,7 @@ pub fn find_optional<'a>(
     Ok(found)
 }
 
-/// The one child of a name. It takes no memory.
+/// The one child of a name. It takes no memory. Malformed exactly where not exactly one child has the name.
 pub fn find_single<'a>(items: &'a [Item], space: &[u8], local: &[u8]) -> Result<&'a Element, Flaw>
     ensures { Gives (λ e. element_view e.now) result
         (single (children_named (name_in space.now local.now) (parts_view items.now))) }

@@ -14,6 +14,7 @@ use std::borrow::CowSlice;
 use xml_chars::is_space;
 
 /// The text of content, put together; it is lent where nothing else stands there. A child element makes it unreadable.
+/// Malformed exactly where a child stands among the text.
 pub fn read_text(alloc: Global, items: &[Item]) -> Result<CowSlice<'_, u8>, Flaw>
     ensures { Gives cow_slice_items result (text_among (parts_view items.now)) }
 {

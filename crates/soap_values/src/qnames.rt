@@ -13,7 +13,8 @@ use soap_document::{cut, is_qname};
 use std::alloc::Global;
 
 /// The name that bytes are within these elements, the innermost of which comes first, around which the outer bindings
-/// are in force. A name without a prefix is in the default namespace.
+/// are in force. A name without a prefix is in the default namespace. Malformed exactly where the bytes are no name, or
+/// one whose prefix is not bound there.
 pub fn read_qname(
     alloc: Global,
     bytes: &[u8],

@@ -8,7 +8,7 @@ use crate::flaw::Flaw;
 use rm_base::{Ident, TextError, Uri};
 use std::alloc::Global;
 
-/// An identifier of a sequence.
+/// An identifier of a sequence. Malformed exactly where the bytes are no text of 1 to 512 bytes.
 pub fn read_ident(alloc: Global, bytes: &[u8]) -> Result<Ident, Flaw>
     ensures { Gives (λ ident. ident) result (text_within 512 bytes.now) }
 {
@@ -18,7 +18,7 @@ pub fn read_ident(alloc: Global, bytes: &[u8]) -> Result<Ident, Flaw>
     }
 }
 
-/// An address, an action or a message's name.
+/// An address, an action or a message's name. Malformed exactly where the bytes are no text of 1 to 2048 bytes.
 pub fn read_uri(alloc: Global, bytes: &[u8]) -> Result<Uri, Flaw>
     ensures { Gives (λ uri. uri) result (text_within 2048 bytes.now) }
 {

@@ -23,6 +23,7 @@ pub trait Wire {
     ghost packets: { Self → List (ℕ × List ℕ) };
 
     /// One more packet. Where the wire has no room for it, it is lost, and the answer is false.
+    /// - `taken`: a wire has at most 65536 packets, and 536870912 bytes together.
     fn put(&mut self, to: u8, bytes: &[u8]) -> Result<bool, Memory>
         ensures taken { IfOk result (λ taken. taken ≡ has_room (packets self.old) (length bytes.now)) }
         ensures ok { OnOk result (packets self.new ≡ with_packet (packets self.old) to bytes.now) }

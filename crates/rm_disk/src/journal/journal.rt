@@ -60,6 +60,11 @@ impl Journal {
 
     /// Makes the disk an empty journal, in three device calls: it cuts, writes and syncs. After Disk the disk holds
     /// anything, and must be formatted again.
+    /// - `made`: a journal of no entries, on every disk.
+    /// - `bytes`, `fits`: the disk has the front of the first bank, a closed gate and nothing behind it, and nothing is
+    ///   unsynced; each image stands for no entries.
+    /// - Memory: before any device call (`refusals`, `untouched`).
+    /// - Disk: exactly where the fuse lies among the device calls (`cause`, `fuse`).
     pub fn format<D: Disk>(alloc: Global, disk: &mut D) -> Result<Journal, JournalError>
         ensures made { IfOk result (λ journal. journal ≡ journal_of []) }
         ensures fits { IsTrue D.tells → IfOk result (Fits [] (D.told disk.new).past) }
@@ -92,6 +97,14 @@ impl Journal {
     }
 
     /// Finds the journal on a disk. It makes three device calls: it syncs, asks for the length and reads all once.
+    /// - `fits`: the list for which the disk reads, in its bank, and then each image stands for it there.
+    /// - `behind`: the journal ends no earlier than its list begins.
+    /// - `seen`, `moments`, `settled`: whatever comes, what is read stays, a crash leaves no more than before, and at
+    ///   Ok nothing is unsynced.
+    /// - NotAJournal: exactly where the disk reads for no list in either bank, and neither of these comes (`none`,
+    ///   `fits`).
+    /// - Memory: before any device call, or after two or three that went well (`memory`).
+    /// - Disk: exactly where the fuse lies among the device calls (`cause`, `fuse`).
     pub fn mount<D: Disk>(alloc: Global, disk: &mut D) -> Result<Journal, JournalError>
         ensures fits { IsTrue D.tells → IfOk result (λ journal. (entries : List (List ℕ)) ×
             StandsAt journal.bank entries (seen_of (D.told disk.old).past)
@@ -141,6 +154,11 @@ impl Journal {
 
     /// Makes a disk the journal of the entries for which bytes of the layout before stand, in three device calls. After
     /// Disk the disk holds anything.
+    /// - NotAJournal, Full: exactly where the bytes stand for no list; where the journal of their list would be longer
+    ///   than 268435456. No device call was made (`answers`, `untouched`).
+    /// - Memory: no device call was made (`answers`, `untouched`).
+    /// - Disk: of bytes that stand for a list for which a journal has room, exactly where the fuse lies among the
+    ///   device calls; nothing is said of what the disk holds (`answers`, `cause`, `fuse`).
     pub fn import<D: Disk>(
         alloc: Global,
         disk: &mut D,
@@ -193,6 +211,16 @@ impl Journal {
 
     /// Adds an entry, in four device calls: it writes the entry behind the closed gate, syncs, opens the gate, syncs.
     /// After Disk the entry is on the disk or isn't, and the journal is down: mount the disk again.
+    /// - `moments`: at every moment from the start each image stands for the old entries, or for these with the new
+    ///   one.
+    /// - `ok`: after Ok each image stands for the new list.
+    /// - `bytes`: at Ok the bytes are the old ones up to the gate, the opened gate, the length, the entry, a closed
+    ///   gate and what stood further behind, and nothing is unsynced.
+    /// - Down, EntryTooLong, Full: exactly with the first that holds of: the journal is down; the entry is longer than
+    ///   4194304; the journal would end past 268435456 (`refusals`).
+    /// - Memory: where none of these holds; no device call was made (`refusals`, `untouched`).
+    /// - Disk: where none of these holds; on a disk that tells, exactly where the fuse lies among the device calls
+    ///   (`cause`, `fuse`).
     pub fn append<D: Disk>(&mut self, disk: &mut D, entry: &[u8]) -> Result<(), JournalError>
         requires { IsTrue D.tells → FitsUnlessDown (D.told disk.old).past self.old }
 
@@ -235,6 +263,15 @@ impl Journal {
     /// Writes the list anew, in five device calls: it writes the fresh list before the one that stands, where that has
     /// room, else behind it; writes its start into the slot that doesn't count; syncs; writes the selector; syncs.
     /// After Disk one of the two lists is on the disk, and the journal is down: mount the disk again.
+    /// - `moments`: at every moment from the start each image stands for the old entries in the old bank, or for the
+    ///   fresh ones in the other, at 25 where they have room before the old ones, else behind them.
+    /// - `ok`, `bytes`: after Ok each image stands for the fresh ones there; the bytes are the old ones with the list,
+    ///   its start and the selector written over them, and nothing is unsynced.
+    /// - Down, Full: exactly with the first that holds of: the journal is down; the list is put behind the old one and
+    ///   would end past 268435456 (`refusals`).
+    /// - Memory: where none of these holds; no device call was made (`refusals`, `untouched`).
+    /// - Disk: where none of these holds; on a disk that tells, exactly where the fuse lies among the device calls
+    ///   (`cause`, `fuse`).
     pub fn compact<D: Disk>(&mut self, disk: &mut D, fresh: &[Blob]) -> Result<(), JournalError>
         requires short { AllFit fresh.now }
         requires fits { IsTrue D.tells → FitsUnlessDown (D.told disk.old).past self.old }
@@ -280,6 +317,9 @@ impl Journal {
 
     /// The entry of this number, counted from 1, in one device call. On a disk that tells nothing the bytes that
     /// stand in the entry's place are the answer, whatever they are.
+    /// - Down: exactly where the journal is down (`down`).
+    /// - Disk: exactly where the fuse lies at its one device call; the journal is down, and what the disk has stays
+    ///   (`cause`, `fuse`, `past`).
     pub fn entry<D: Disk>(&mut self, disk: &mut D, i: u64) -> Result<Blob, JournalError>
         requires number { (1 ≤ i) × (i ≤ length self.old.gates) }
         requires fits { IsTrue D.tells → FitsUnlessDown (D.told disk.old).past self.old }

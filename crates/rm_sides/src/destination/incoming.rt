@@ -116,6 +116,7 @@ impl Incoming {
     }
 
     /// The numbers of the messages that were received, with those that are gone.
+    /// - `ranges`: the canonical ranges of what came.
     pub fn received(&self) -> &RangeSet
         ensures ranges { result.now.ranges ≡ ranges_onto [] (held self.now.facts) }
         ensures same { (n : ℕ) → in_ranges result.now.ranges n ≡ has_number (held self.now.facts) n }
@@ -130,7 +131,9 @@ impl Incoming {
         self.arrivals.as_slice()
     }
 
-    /// What `take` would answer, but for want of memory.
+    /// What `take` would answer, but for want of memory. Terminated, Closed, Duplicate or PastWindow comes exactly with
+    /// the first that holds of: the phase is Ended at the moment; the number was received; the phase is Closed; the
+    /// number is more than 1024 past the front.
     pub fn probe(&self, number: u64, now: u64) -> Result<Took, DestError>
         ensures { result ≡ took_of self.now.facts number now }
     {
@@ -141,6 +144,8 @@ impl Incoming {
     }
 
     /// Receives a message, where it is new. Where there is room for it, it takes no memory.
+    /// - `ok`: a new message stands behind those that came before, and nothing else changes.
+    /// - Terminated, Closed: and the values Duplicate and PastWindow: as `probe` answers (`answer`, `error`).
     pub fn take(&mut self, number: u64, payload: Payload, now: u64) -> Result<Took, DestError>
         requires from_one { 0 < number }
         requires within { number ≤ max_number }
@@ -180,6 +185,7 @@ impl Incoming {
     }
 
     /// Closes the sequence, where it is open at the moment. A last number of 0 counts as none.
+    /// - Terminated, Closed: exactly where the phase at the moment is Ended; is Closed (`answer`).
     pub fn close(&mut self, cause: Cause, last: Option<u64>, now: u64) -> Result<(), DestError>
         ensures answer { result ≡ close_answer (phase_of self.old.facts now) }
         ensures ok { OnOk result (self.new ≡ stopped_by self.old false cause last) }
@@ -215,6 +221,7 @@ impl Incoming {
 
     /// Begins behind messages that were received and consumed, and which are gone. On an ordered sequence their numbers
     /// are 1 to some number.
+    /// - `ok`: their numbers are received for good, and they stand before all others in the inbox, without a payload.
     pub fn restore(&mut self, numbers: &RangeSet) -> Result<(), Memory>
         requires nothing { is_empty (held self.old.facts) ≡ true }
         requires run { is_loose self.old.facts.behaviour ≡ false →
@@ -244,6 +251,8 @@ impl Incoming {
     }
 
     /// Notes that the application consumed the inbox up to an item, and answers whether it had not before.
+    /// - `ok`: the cursor never goes back.
+    /// - PastInbox: exactly where more is consumed than the inbox has; it has that length (`answer`).
     pub fn consume(&mut self, upto: u64) -> Result<bool, DestError>
         ensures answer { result ≡ consume_answer self.old.facts upto }
         ensures ok { OnOk result (self.new ≡ with_cursor self.old upto) }
@@ -258,7 +267,9 @@ impl Incoming {
         Ok(goes_on)
     }
 
-    /// The numbers of the items that the application consumed, where the inbox has as many.
+    /// The numbers of the items that the application consumed, where the inbox has as many. Of an ordered inbox these
+    /// are 1 to the cursor, of a loose one the numbers of its first items; there are none where the inbox has fewer
+    /// items.
     pub fn passed(&self, alloc: Global) -> Result<RangeSet, Memory>
         ensures { IfOk result (λ set. set.ranges ≡ passed self.now.facts) }
     {

@@ -82,6 +82,7 @@ impl RangeSet {
     }
 
     /// The ranges, which rise.
+    /// - `canonical`: message numbers, rising, with a missing number between each two.
     pub fn ranges(&self) -> &[Range]
         ensures ranges { result.now ≡ self.now.ranges }
         ensures canonical { IsCanonical self.now.ranges }

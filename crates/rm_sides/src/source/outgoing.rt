@@ -109,6 +109,7 @@ impl Outgoing {
     }
 
     /// The numbers that are known to be acknowledged.
+    /// - `sound`: canonical ranges within the numbers of accepted payloads.
     pub fn acked(&self) -> &RangeSet
         ensures numbers { result.now.ranges ≡ self.now.facts.acked }
         ensures sound { IsSound self.now.facts }
@@ -125,6 +126,9 @@ impl Outgoing {
 
     /// Accepts a payload, and answers its number. It is refused outside phase Open, then where the window is full, then
     /// where the numbers are used up. Where there is room for it, it takes no memory.
+    /// - `number`: the number behind all others.
+    /// - WindowFull, Rollover: where 1024 or more are not acknowledged; where 9223372036854775807 were accepted
+    ///   (`refused`, `error`).
     pub fn accept(&mut self, payload: Blob) -> Result<u64, SourceError>
         ensures ok { OnOk result (self.new ≡ with_payload self.old payload) }
         ensures number { IfOk result (λ number. number ≡ accepted_count self.old.facts + 1) }
@@ -157,6 +161,7 @@ impl Outgoing {
     /// Adds numbers to the acknowledged ones, and answers whether one of them is new. They are refused where the
     /// greatest of them is above the count of accepted payloads. Where there is room for their ranges, it takes no
     /// memory.
+    /// - InvalidAck: has the greatest given number (`refused`, `error`).
     pub fn learn(&mut self, given: &RangeSet) -> Result<bool, SourceError>
         ensures ok { OnOk result (self.new ≡ with_acked self.old given.now.ranges) }
         ensures is_new { IfOk result (λ is_new. is_new ≡ not (covers_all self.old.facts.acked given.now.ranges)) }

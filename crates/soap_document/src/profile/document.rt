@@ -61,7 +61,8 @@ impl DocumentReader {
         self.reader.is_ended()
     }
 
-    /// The tree, where what was fed is a document.
+    /// The tree, where what was fed is a document. It is the tree of the pieces joined, and None comes exactly where
+    /// these are no document.
     pub fn finish(self) -> Option<Placed>
         ensures found { (bytes : List ℕ) → WasFed self bytes
             → IfSome result (λ placed. IsPlaced bytes (element_view placed.root) placed.last) }

@@ -24,6 +24,10 @@ pub struct Placed {
 }
 
 /// The tree of a whole document. It answers none of the errors that speak of envelopes.
+/// - `ok`: the tree of the bytes, each name resolved as Namespaces in XML 1.0 says.
+/// - TooLong, NotUtf8: exactly where the bytes are more than 2097152, with how many; where they aren't and are no
+///   UTF-8, with the length of the longest front that is (`too_long`, `not_utf8`).
+/// - NotProfile: exactly where neither holds and the bytes are no document (`not_profile`, `ok`, `fits`).
 pub fn read_element(alloc: Global, bytes: &[u8]) -> Result<Element, EnvelopeError>
     // What is read.
     ensures ok { IfOk result (λ tree. Document bytes.now (element_view tree)) }
@@ -43,6 +47,8 @@ pub fn read_element(alloc: Global, bytes: &[u8]) -> Result<Element, EnvelopeErro
 }
 
 /// The same, with the place of the last element within the root.
+/// - TooLong, NotUtf8, NotProfile: as `read_element` answers them (`too_long`, `not_utf8`, `not_profile`, `ok`,
+///   `fits`).
 pub fn read_placed(alloc: Global, bytes: &[u8]) -> Result<Placed, EnvelopeError>
     // What is read.
     ensures ok { IfOk result (λ placed. IsPlaced bytes.now (element_view placed.root) placed.last) }

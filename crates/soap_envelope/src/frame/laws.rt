@@ -26,7 +26,9 @@ ghost use Rattle.soap_envelope.specs.Frame.Framed.{framed_envelope};
 
 use soap_writer::laws::{attributes_are_read_back, content_is_read_back};
 
-/// A frame around header blocks and content is an envelope of exactly these blocks and this payload.
+/// A frame around header blocks and content is an envelope of exactly these blocks and this payload. The payload is the
+/// exact bytes of the content, the frame's bindings are in force in both, and the body is what the content is, whatever
+/// the namespace of SOAP.
 pub fn frame_is_an_envelope()
     ensures { (soap : List ℕ) (header : List Block) (payload : List ℕ) (body : Parts) → MayBeSoap soap
         → AllByRecursion (IsBlock soap) header → ((at : ℕ) → ContentReadsAs 2 at (frame_scope soap) payload body)

@@ -17,7 +17,8 @@ pub fn names_may_be_written()
 {}
 
 /// The root of a document, and so each element in it, may be written without its declarations, where a machine can
-/// count the bytes of the document.
+/// count the bytes of the document. Prefixes are bound there as they may be (`may_bind`), and at most 100 elements are
+/// in one another.
 pub fn elements_may_be_written()
     ensures { (bytes : List ℕ) (tree : Element) → Document bytes tree → length bytes < 2 ^ 64 → IsResolved 0 tree }
 {}

@@ -41,7 +41,7 @@ impl Model for KeyTimers {
 }
 
 impl KeyTimers {
-    /// No key waits, and the time is 0.
+    /// No key waits, and the time is 0. After it no call takes memory.
     pub fn new(alloc: Global) -> Result<KeyTimers, Memory>
         ensures waits { IfOk result (λ t. StandsFor t []) }
         ensures cells { IfOk result (λ t. t.cells ≡ []) }
@@ -142,6 +142,8 @@ impl KeyTimers {
     }
 
     /// The key is emitted, where it waits: last in the next class.
+    /// - `waits`, `cells`: the classes go up to 6, and the key is due by the time that the timers were told. A key that
+    ///   doesn't wait changes nothing.
     pub fn emit(&mut self, key: Key)
         ensures waits { Steps self.old self.new (sent self.old.time key) }
         ensures cells { self.new.cells ≡ self.old.cells }
@@ -168,7 +170,7 @@ impl KeyTimers {
     }
 
     /// The key at a place, counted from 0, among those that are due now, by class and then by the order of the last
-    /// move.
+    /// move. It goes by the timers' time where that is later. None exactly where no more keys are due than the place.
     pub fn due(&self, now: u64, k: u32) -> Option<Key>
         requires { now ≤ now_max }
         ensures { (waits : List Wait) → StandsFor self.now waits →
@@ -197,6 +199,7 @@ impl KeyTimers {
     }
 
     /// The place of the first key that doesn't come before this one.
+    /// - `rising`: the keys rise by sequence and number.
     pub fn place(&self, key: Key) -> usize
         ensures place { IsPlace self.now.cells key result }
         ensures rising { Rises self.now.cells }

@@ -54,7 +54,8 @@ impl Model for Links {
 }
 
 impl Links {
-    /// So many empty lists over so many free slots.
+    /// So many empty lists over so many free slots. After it no call takes memory. A step of the calls is one read or
+    /// write of a slot.
     pub fn with_slots(alloc: Global, slots: u32, lists: u32) -> Result<Links, Memory>
         ensures lists { IfOk result (λ links. links.lists ≡ replicate lists []) }
         ensures slots { IfOk result (λ links. links.slots ≡ slots) }
@@ -80,6 +81,7 @@ impl Links {
     }
 
     /// Puts an item last into its list, and answers the slot that it has from now on, which was free.
+    /// - `cost`: at most 6 steps, however many items there are.
     pub fn add<L: Ledger>(&mut self, list: u32, key: u64, due: u64, steps: &mut Steps<L>) -> u32
         requires spare { 0 < self.old.spare }
         requires list { list < length self.old.lists }
@@ -113,6 +115,7 @@ impl Links {
     }
 
     /// Takes the item of a slot out of its list. The slot is free again.
+    /// - `cost`: at most 6 steps, however many items there are.
     pub fn remove<L: Ledger>(&mut self, slot: u32, steps: &mut Steps<L>) -> Item
         requires { IsLive self.old.lists slot }
         ensures taken { TakesOut self.old.lists self.new.lists slot result }
@@ -141,6 +144,7 @@ impl Links {
     }
 
     /// Takes the first item of a list.
+    /// - `cost`: at most 6 steps, however many items there are.
     pub fn take_first<L: Ledger>(&mut self, list: u32, steps: &mut Steps<L>) -> Option<Item>
         requires { list < length self.old.lists }
         ensures first { result ≡ first_of (list_at self.old.lists list) }
@@ -182,6 +186,7 @@ impl Links {
     }
 
     /// Takes the first item of the lowest list whose first item is due.
+    /// - `cost`: at most the number of lists and 6 steps.
     pub fn take_due<L: Ledger>(&mut self, now: u64, steps: &mut Steps<L>) -> Option<Item>
         ensures first { result ≡ first_due now self.old.lists }
         ensures stands { IfSome result (λ item. Stands self.old.lists [] item
@@ -201,6 +206,7 @@ impl Links {
     }
 
     /// The item at a place of a list, counted from 0. It walks there.
+    /// - `cost`: at most k + 1 steps for the place k.
     pub fn nth<L: Ledger>(&self, list: u32, k: u32, steps: &mut Steps<L>) -> Option<&Item>
         requires { list < length self.now.lists }
         ensures item { option_copied result ≡ slice_get (list_at self.now.lists list) k }
@@ -217,6 +223,7 @@ impl Links {
 
     /// How many items at the front of a list are due, up to the first that isn't, and at most the limit.
     /// It walks there.
+    /// - `cost`: at most as many steps as the limit.
     pub fn due_front<L: Ledger>(&self, list: u32, now: u64, limit: u32, steps: &mut Steps<L>) -> u32
         requires { list < length self.now.lists }
         ensures count { result ≡ min limit (due_count now (list_at self.now.lists list)) }

@@ -174,7 +174,7 @@ impl<T: Drop> Pending<T> {
         self.ready.clear();
     }
 
-    /// How many packets were dropped.
+    /// How many packets were dropped. The count stands still at the greatest u64.
     pub fn dropped(&self) -> u64
         ensures { result ≡ self.now.waits.dropped }
     {

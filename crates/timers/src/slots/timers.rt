@@ -59,7 +59,7 @@ impl Model for Timers {
 }
 
 impl Timers {
-    /// No key waits, and the time is 0.
+    /// No key waits, and the time is 0. There are 4352 free slots, and after it no call takes memory.
     pub fn new(alloc: Global) -> Result<Timers, Memory>
         ensures waits { IfOk result (λ timers. StandFor timers []) }
         ensures time { IfOk result (λ timers. timers.time ≡ 0) }
@@ -83,6 +83,7 @@ impl Timers {
     }
 
     /// The key begins to wait, last and due at once. It answers the key's slot, which is its own until `remove`.
+    /// - `waits`: the key stands last in class 0, with a slot that no entry has.
     pub fn add(&mut self, key: Key) -> u32
         requires { 0 < self.old.spare }
         ensures waits { Steps self.old self.new (begun result key) }
@@ -95,6 +96,9 @@ impl Timers {
     }
 
     /// The key of the slot was emitted at `now`: it goes last into the next class.
+    /// - `waits`: the classes go up to 6; the key is due 2000 * 2^(class - 1) milliseconds after the timers' time, and
+    ///   slot and key stay.
+    /// - `time`: the time is the greatest moment that was told, so it never falls.
     pub fn sent(&mut self, slot: u32, now: u64)
         requires slot { IsLive self.old slot }
         requires now { now ≤ now_max }
@@ -146,6 +150,7 @@ impl Timers {
     }
 
     /// Emits the first key that is due, by class and then by the order of the last move.
+    /// - `key`: None exactly where no key is due, and then only the time goes on.
     pub fn take_due(&mut self, now: u64) -> Option<Key>
         requires { now ≤ now_max }
         ensures key { (waits : List Entry) → StandFor self.old waits →
@@ -160,7 +165,7 @@ impl Timers {
     }
 
     /// The key at a place, counted from 0, among those that are due at `now`, or at the timers' time where that is
-    /// later.
+    /// later. None exactly where no more keys are due than the place.
     pub fn nth_due(&self, now: u64, k: u32) -> Option<Key>
         requires { now ≤ now_max }
         ensures { (waits : List Entry) → StandFor self.now waits →
