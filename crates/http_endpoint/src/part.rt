@@ -41,7 +41,8 @@ pub trait Part {
     fn parse(alloc: Global, bytes: &[u8]) -> Result<Parsed<Self::Out>, Memory>
         ensures { IfOk result (IsParse reads begun bytes.now) };
 
-    /// Whether the part may end among the bytes from `from`, so that it is worth to parse them.
+    /// Whether the part may end among the bytes from `from`, so that it is worth to parse them. A chunk's line may end
+    /// at an LF, a head at a line without text behind some, a trailer there or at its first byte; no part is late.
     fn may_end(bytes: &[u8], from: usize) -> bool
         ensures { result ≡ ends bytes.now from };
 

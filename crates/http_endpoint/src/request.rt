@@ -53,6 +53,15 @@ pub fn read_request<C: Connection>(alloc: Global, conn: &mut C) -> Result<Blob, 
 }
 
 /// Reads one request of this media type, and gives its body, as `read_request` does.
+/// - `answer`: the body behind a head of at most 16384 bytes and 64 fields, by its length or in chunks, or the first
+///   reason why there is none: a bad head, another method (405), another transfer coding (501), a content coding (415),
+///   another media type (415), and then the body's. A body of more than 2097152 bytes is TooLong.
+/// - `front`: `HTTP/1.1 100 Continue` is written exactly for a request that expects it and is not refused by its head,
+///   and nothing else is; some first bytes of it where a fault or want of memory ended the call.
+/// - `stops`: at most 16385 bytes are taken and what `most_taken` has for a body in chunks; a body that isn't in chunks
+///   takes at most 2097153 bytes.
+/// - ReadFault, WriteFault: only where the connection's count of faults rose (`read_fault`, `write_fault`).
+/// - `lasts`: on a connection that tells that it is sound the count stays.
 pub fn read_request_as<C: Connection>(
     alloc: Global,
     conn: &mut C,

@@ -44,6 +44,9 @@ fn read_final<S: Source>(
 
 /// Reads one response. One of status 100 is passed over once. Of an error other than want of memory or a fault it is
 /// exact which one comes, by the bytes that the source has left, however they arrive. RFC 9112, sections 2 to 7.
+/// - BadHead, TooLong, CutShort: exactly by the bytes that the source has left, where it tells them; nothing was
+///   written (`answer`, `keeps`).
+/// - ReadFault: only where the source's count of faults rose. WriteFault and Unsupported never come (`keeps`).
 pub fn read_response<S: Source>(alloc: Global, from: &mut S) -> Result<Response, HttpError>
     ensures answer { (all : List ℕ) → (S.told from.old).left ≡ Some all → IfTold result (IsResponse result all) }
     ensures stops { (S.told from.new).taken

@@ -49,7 +49,8 @@ fn target_of_url(alloc: Global, url: &Url) -> Result<Option<Target>, Memory>
 }
 
 /// The target of an address, or None exactly where it is no URL of the scheme http with a host (URL Standard). A URL
-/// that comes to 4 GB, as none of an address does, counts as want of memory.
+/// that comes to 4 GB, as none of an address does, counts as want of memory. It has the host as it is written, the port
+/// or 80, and the path with the query.
 pub fn read_target(alloc: Global, address: &Uri) -> Result<Option<Target>, Memory>
     ensures { IfOk result (λ target. target ≡ target_of address.now) }
 {

@@ -138,6 +138,7 @@ pub fn write_response<K: Sink>(
 }
 
 /// Writes a response of this media type with this body, which may be empty. RFC 9112, section 4; RFC 9110, section 15.
+/// - `ok`, `err`: the whole text is written, or some first bytes of it where a write failed or memory was wanting.
 pub fn write_response_as<K: Sink>(
     alloc: Global,
     out: &mut K,
@@ -172,6 +173,9 @@ pub fn write_request<K: Sink>(
 }
 
 /// Writes a request of this media type to a target with this body. RFC 9112, section 3; SOAP 1.1, section 6.1.1.
+/// - `ok`, `err`: the whole text is written, or some first bytes of it where a write failed or memory was wanting. For
+///   SOAP 1.1 the type is `text/xml`, and `SOAPAction: ""` stands besides.
+/// - WriteFault: only where the sink's count of faults rose (`keeps`).
 pub fn write_request_as<K: Sink>(
     alloc: Global,
     out: &mut K,

@@ -17,6 +17,9 @@ use std::alloc::Global;
 
 /// The message that the bytes spell where SOAP has this namespace, or the refusal of the first kind that holds, with
 /// where its fault goes.
+/// - `ok`: an envelope of at most 2097152 bytes whose header blocks and body have these values.
+/// - `err`: the first kind that holds, from TooLong to Rollover, with the endpoint of its fault, the message that this
+///   relates to, the names that were not understood, and the sequence. What is refused spells nothing.
 pub fn decode_in(alloc: Global, bytes: &[u8], soap: &[u8]) -> Result<Message, DecodeError>
     ensures ok { IfOk result (Spells soap.now bytes.now) }
     ensures err { IfErr result (IsRefusal soap.now bytes.now) }

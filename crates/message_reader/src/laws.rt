@@ -15,7 +15,7 @@ pub fn one_message()
     one_envelope();
 }
 
-/// Bytes that spell a message are not refused.
+/// Bytes that spell a message are not refused. So `decode` answers exactly these wherever memory does not run out.
 pub fn a_message_is_not_refused()
     ensures { (soap bytes : List ℕ) (m : Value) (refusal : Refusal) → Spells soap bytes m
         → ¬ (Refuses soap bytes refusal) }

@@ -149,7 +149,9 @@ fn addressing(alloc: Global, refusal: &Refusal) -> Result<Addressing, Memory>
 }
 
 /// The fault that answers a refusal. The block is the final acknowledgement that SequenceClosed carries, or the first
-/// refused one, which InvalidAcknowledgement repeats in its Detail; of another kind it is dropped.
+/// refused one, which InvalidAcknowledgement repeats in its Detail; of another kind it is dropped. The table of faults
+/// gives reason, code, subcode, action, Detail, acknowledgement and names of each of the twenty kinds; the fault goes
+/// to the refusal's endpoint, with its parameters echoed, in relation to its message.
 pub fn fault_message(
     alloc: Global,
     refusal: &Refusal,

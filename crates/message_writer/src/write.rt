@@ -137,7 +137,9 @@ pub(crate) fn push_body(alloc: Global, body: &Body, out: &mut Blob) -> Result<()
     }
 }
 
-/// The text of a message.
+/// The text of a message. It is the one text of a message, for every message: addressing headers in order, marked
+/// parameters, Sequence, acknowledgements, requests, MessagePending, NotUnderstood blocks, and an empty Body, the
+/// payload's bytes, the body element or the Fault.
 pub fn encode(alloc: Global, message: &Message) -> Result<Blob, Memory>
     ensures { IfOk result (λ bytes. bytes ≡ message_text soap_space message.now) }
 {

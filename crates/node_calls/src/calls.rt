@@ -40,6 +40,11 @@ fn serving(tables: &Tables, place: u64)
 }
 
 /// Asks for a sequence.
+/// - `is`: the answer of the protocol, for all terms of a node's own: its refusals in their order, its records, and
+///   what it says then. So it is with the other calls.
+/// - `stored`: the records may be written: each may come next, there is room, and their values are as their types keep
+///   them. So it is with the other calls.
+/// - TooManySequences, StoreFull: in this order (`is`).
 pub fn create(alloc: Global, tables: &Tables, place: u64, wish: Wish) -> Result<Answer, Memory>
     requires serves { Serves tables.now.records place }
     ensures is { (terms : Terms) → AreOwn terms
@@ -51,6 +56,8 @@ pub fn create(alloc: Global, tables: &Tables, place: u64, wish: Wish) -> Result<
 }
 
 /// Accepts a payload for an outgoing sequence.
+/// - NoSequence, WrongSide, PayloadTooLong, BadPayload, NotOpen, WindowFull, NodeFull, Rollover, StoreFull: in this
+///   order (`is`).
 pub fn send(
     alloc: Global,
     tables: &Tables,
@@ -68,6 +75,7 @@ pub fn send(
 }
 
 /// Closes a sequence.
+/// - NoSequence, NotOpen, StoreFull: in this order (`is`).
 pub fn close(
     alloc: Global,
     tables: &Tables,
@@ -85,6 +93,8 @@ pub fn close(
 }
 
 /// Consumes the items of an incoming sequence's inbox up to one.
+/// - NoSequence, WrongSide, PastInbox, StoreFull: in this order (`is`).
+/// - `is`: one record says so where the cursor goes on, and none where it doesn't.
 pub fn consume(
     alloc: Global,
     tables: &Tables,
@@ -102,6 +112,7 @@ pub fn consume(
 }
 
 /// Ends an outgoing sequence.
+/// - NoSequence, WrongSide, NotOpen, StoreFull: in this order (`is`).
 pub fn end(alloc: Global, tables: &Tables, place: u64, seq: u32) -> Result<Answer, Memory>
     requires { Serves tables.now.records place }
     ensures is { (terms : Terms) → AreOwn terms
@@ -113,6 +124,8 @@ pub fn end(alloc: Global, tables: &Tables, place: u64, seq: u32) -> Result<Answe
 }
 
 /// Ends the incoming sequences whose time has run out, and says the messages of the keys that are emitted.
+/// - `is`: each key that is handed in is said as its data message, or as the request that its sequence waits with, in
+///   the order of the keys. A batch that has no room is left out.
 pub fn tick(
     alloc: Global,
     tables: &Tables,
@@ -130,6 +143,7 @@ pub fn tick(
 }
 
 /// Asks the peer of an outgoing sequence for an acknowledgement.
+/// - NoSequence, WrongSide, NotOpen: in this order (`is`).
 pub fn ask_ack(alloc: Global, tables: &Tables, place: u64, seq: u32) -> Result<Answer, Memory>
     requires { Serves tables.now.records place }
     ensures is { IfOk result (λ a. seen a ≡ ask_ack_of tables.now.records seq) }
@@ -139,6 +153,8 @@ pub fn ask_ack(alloc: Global, tables: &Tables, place: u64, seq: u32) -> Result<A
 }
 
 /// Tells the peer of an incoming sequence which numbers are missing.
+/// - NoSequence, WrongSide, NotOpen: in this order (`is`).
+/// - `is`: a Nack names the first 64 numbers below the greatest that were not received; no record is added.
 pub fn nack_missing(
     alloc: Global,
     tables: &Tables,
@@ -155,6 +171,7 @@ pub fn nack_missing(
 }
 
 /// Asks a peer for the messages that wait there for the node.
+/// - `is`: a MakeConnection asks for what waits for the node's polled address; no record is added.
 pub fn poll(alloc: Global, tables: &Tables, place: u64, to: Uri) -> Result<Answer, Memory>
     requires { Serves tables.now.records place }
     ensures is { IfOk result (λ a. seen a ≡ poll_of tables.now.records to) }

@@ -14,7 +14,10 @@ use rm_sides::ranges::range_is_added;
 use rm_wire::laws::{a_fault_keeps_the_rules, what_is_written_is_read};
 use soap_document::laws::{content_makes_a_document, document_is_read};
 
-/// Each call of a node keeps its records those of a node: what `mount` accepts before a call it accepts after it.
+/// Each call of a node keeps its records those of a node: what `mount` accepts before a call it accepts after it. The
+/// calls are: create with an address and a duration within the limits, send, close, end, consume, tick, the two calls
+/// that ask a peer, poll of an address, and receive of a message as it is read or of a refusal whose fault may be
+/// written.
 pub fn each_call_keeps_the_records()
     ensures { EachCallKeeps }
 {
@@ -32,7 +35,8 @@ pub fn each_message_keeps_the_rules()
     each_record_may_come_next();
 }
 
-/// The messages that wait at a node keep them too, and so does what a MakeConnection takes out of them.
+/// The messages that wait at a node keep them too, and so does what a MakeConnection takes out of them. What is said
+/// beside it does so too.
 pub fn what_waits_keeps_the_rules()
     ensures { PollsByTheRules }
 {}
@@ -79,7 +83,8 @@ pub fn written_scope_is_the_frames()
     ensures { written_scope ≡ sorted_scope soap_space }
 {}
 
-/// At most `MOST_KEYS` keys wait at a node.
+/// At most `MOST_KEYS` keys wait at a node. These are a message that is not acknowledged where messages are sent again,
+/// and a request of each sequence.
 pub fn a_node_has_room_for_its_keys()
     ensures { HasRoomForKeys }
 {

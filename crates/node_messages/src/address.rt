@@ -70,7 +70,7 @@ fn is_polled(to: &[u8]) -> bool
     prefix.len() < to.len() && &to[..prefix.len()] == prefix
 }
 
-/// Where a message for an address goes.
+/// Where a message for an address goes. It goes back on the connection, nowhere, to those that wait, or out.
 pub fn place_of(to: &[u8]) -> Place
     ensures { place_seen result ≡ place_for to.now }
 {

@@ -16,7 +16,8 @@ fn is_identifier(element: &Element) -> bool
     element.name.space() == MESSAGING && element.name.local() == b"Identifier".as_slice()
 }
 
-/// The text of an Identifier, without white space at its ends. It may be no identifier.
+/// The text of an Identifier, without white space at its ends. It may be no identifier. There is none of another
+/// element.
 pub fn ident_of(alloc: Global, element: &Element) -> Result<Option<Blob>, Memory>
     ensures { IfOk result (λ text. text ≡ ident_in (element_view element.now)) }
 {

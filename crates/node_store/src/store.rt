@@ -102,6 +102,8 @@ impl Store {
 impl Store {
     /// Makes a disk that of a node with this number and address. What it held is lost; after want of memory the disk is
     /// as it was or has an empty journal, and after a fault of the disk it holds anything.
+    /// - `made`, `has`: one batch, the record of its number and address.
+    /// - Disk: not on a disk that is not armed, and none is armed then (`unarmed`, `cause`).
     pub fn make<D: Disk>(
         alloc: Global,
         disk: &mut D,
@@ -138,6 +140,11 @@ impl Store {
     /// Finds the node that a disk holds. It answers NotAJournal exactly where the disk, as it reads, holds no batches
     /// of a node, however long its journal is: the limit is on what is added. It writes nothing, and takes memory for
     /// the journal once and then for the tables and one entry.
+    /// - NotAJournal: exactly where, in either bank, the disk reads for no batches of a node, and no other error comes:
+    ///   there is no list; an entry is no batch; a record does not fit or breaks a limit; the first is not Made; an
+    ///   accepted payload is no closed content; there are more than 256 sequences, or 1024 unacknowledged messages of
+    ///   one or 4096 in all; a number is more than 1024 past its front (`none`, `found`).
+    /// - Disk: not on a disk that is not armed (`unarmed`, `cause`).
     pub fn mount<D: Disk>(alloc: Global, disk: &mut D) -> Result<Store, MountError>
         ensures found { IsTrue D.tells → IfOk result (Finds (D.told disk.old).past (D.told disk.new).past) }
         ensures none { IsTrue D.tells → result ≡ Err IsNoJournal → IsNoNode (seen_of (D.told disk.old).past) }
@@ -169,6 +176,11 @@ impl Store {
     /// the first of them it reads each entry over a disk in memory, as `mount` does over a real one, for which it takes
     /// memory for three copies of the journal. It answers NotAJournal exactly where the bytes stand for no batches of a
     /// node, by the tests of `mount`. What the disk held is lost, and after Disk it holds anything.
+    /// - `imported`: on any disk the answer is the journal, in the first bank, and the records of the batches; a disk
+    ///   that tells has them, for good.
+    /// - Full: exactly where the bytes stand for a list whose journal would be longer than 268435456 (`refusals`,
+    ///   `short`, `none_short`).
+    /// - Disk: exactly where the fuse lies among the device calls (`cause`, `fuse`, `unarmed`).
     pub fn import<D: Disk>(alloc: Global, disk: &mut D, bytes: &[u8]) -> Result<Store, ImportError>
         ensures imported { IfOk result (Imports D.tells bytes.now (D.told disk.new).past) }
         ensures none { result ≡ Err BytesAreNone → IsNoNodeBefore bytes.now }
@@ -204,6 +216,12 @@ impl Store {
 
     /// Adds records in one batch, to the journal and then to the tables. All memory is taken before the first device
     /// call.
+    /// - `stored`, `changes`: at Ok the records are there, for good on a disk that tells. A crash at any moment of the
+    ///   call leaves the batches as they were, or with this one, in the journal's bank. Four device calls are made
+    ///   where there is a record, and none where there is none.
+    /// - Memory: no device call was made (`refusals`, `stored`, `changes`).
+    /// - Disk: exactly where there is a record and the fuse lies among the device calls; the store is down (`cause`,
+    ///   `some`, `changes`).
     pub fn append<D: Disk>(&mut self, disk: &mut D, batch: Vec<Record>) -> Result<(), StoreError>
         requires up { self.old.journal.is_down ≡ false }
         requires holds { IsTrue D.tells → (batches : List (List Fact)) × Holds batches (D.told disk.old).past self.old }
@@ -228,6 +246,13 @@ impl Store {
     /// of its own. It makes five device calls. All memory is taken before the first of them; while the call runs, what
     /// the records carry stands in memory three times. After Disk one of the two journals is on the disk, and the
     /// node is down: mount it again.
+    /// - `rewrites`: a crash at any moment leaves the batches as they were where they stood, or the fresh ones where
+    ///   they are put.
+    /// - Full: exactly where a record alone is longer than an entry may be, or the fresh list would have to stand
+    ///   behind the old one and end past 268435456; it has where the journal ends, and how many bytes are wanted. No
+    ///   device call was made (`refusals`, `rewrites`).
+    /// - Memory: also in place of Full; no device call was made (`refusals`, `rewrites`).
+    /// - Disk: exactly where Full doesn't hold and the fuse lies among the device calls (`cause`, `rewrites`).
     pub fn compact<D: Disk>(&mut self, disk: &mut D) -> Result<(), RewriteError>
         requires up { self.old.journal.is_down ≡ false }
         requires holds { IsTrue D.tells → (batches : List (List Fact)) × Holds batches (D.told disk.old).past self.old }

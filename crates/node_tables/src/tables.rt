@@ -137,6 +137,8 @@ impl Tables {
     }
 
     /// How many sequences there are.
+    /// - `sound`, `count`: the records fit one after the other at each moment, and their sequences are counted in 32
+    ///   bits.
     pub fn len(&self) -> u32
         ensures count { result ≡ length (makers self.now.records) }
         ensures sound { all_fit [] self.now.records ≡ true }
@@ -270,7 +272,8 @@ impl Tables {
         }
     }
 
-    /// The outgoing sequence with an identifier.
+    /// The outgoing sequence with an identifier. It is the one that was given it first: a node gives each identifier
+    /// once, since the rows that give one ask for it before.
     pub fn find_outgoing(&self, ident: &[u8]) -> Option<u32>
         ensures { result ≡ find_outgoing self.now.records ident.now }
     {
@@ -288,7 +291,8 @@ impl Tables {
         )
     }
 
-    /// Whether a record may come next.
+    /// Whether a record may come next. It goes by the definition, for all seventeen kinds. The record of what is gone
+    /// has the numbers of a run from 1, but on a loose sequence those of any set that isn't empty.
     pub fn fits(&self, given: &Record) -> bool
         ensures { result ≡ fits self.now.records (fact_of given.now) }
     {
@@ -359,6 +363,7 @@ impl Tables {
 
     /// Makes room for records, and gives up the room that there was: applying exactly these takes no memory then. It
     /// makes none for Dropped and Purged, of which a snapshot alone has some.
+    /// - Memory: nothing is said of the room.
     pub fn reserve(&mut self, batch: &[Record]) -> Result<(), Memory>
         ensures records { self.new.records ≡ self.old.records }
         ensures ok { all_fit self.old.records (map fact_of batch.now) ≡ true →
@@ -420,6 +425,9 @@ impl Tables {
     }
 
     /// Applies records one after the other, up to the first that does not fit or for which there is no memory.
+    /// - `done`, `ok`: records for which there is room, and that fit, are applied whole.
+    /// - Misfit, Memory: Misfit exactly where the first record that was not applied does not fit, Memory where it fits
+    ///   and there is no room; the records before it are applied, and no more (`err`, `ready`, `done`).
     pub fn apply_all(&mut self, batch: Vec<Record>) -> Result<(), TableError>
         ensures ok { OnOk result (self.new.records ≡ self.old.records ++ map fact_of batch.items) }
         ensures fit { OnOk result (all_fit self.old.records (map fact_of batch.items) ≡ true) }
@@ -436,6 +444,9 @@ impl Tables {
     }
 
     /// Applies a record. Where there is room for it, it takes no memory.
+    /// - Misfit: exactly where the record does not fit (`misfit`, `err`).
+    /// - Memory: where it fits and there is no room for it (`misfit`, `ready`, `err`).
+    /// - `ready`, `next`: a record for which there is room leaves the room for those behind it.
     pub fn apply(&mut self, given: Record) -> Result<(), TableError>
         ensures ok { OnOk result (self.new.records ≡ self.old.records ++ fact_of given ∷ []) }
         ensures fit { OnOk result (fits self.old.records (fact_of given) ≡ true) }

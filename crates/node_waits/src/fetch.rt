@@ -155,6 +155,9 @@ fn said_with(
 
 /// What is said, with the message that waits for the address that was asked for, if one was. It waits as before, until
 /// it is taken.
+/// - `fetched`: the oldest message that waits for the address is the reply, with MessagePending, its own blocks and
+///   behind them those of what else would go back on the connection.
+/// - `outs`: besides it is said all that is not for the connection, and where no message is fetched all.
 pub fn polls(
     alloc: Global,
     waits: &Pending<Message>,

@@ -47,6 +47,8 @@ fn push(alloc: Global, held: &mut Vec<Held>, message: &Message) -> Result<(), Me
 }
 
 /// Of what is said, the messages that are to wait.
+/// - `messages`, `held`: each is a copy with the address that it goes to, in the order in which they are said; a fault
+///   is one of them.
 pub fn to_wait(alloc: Global, said: &[Message]) -> Result<Vec<Held>, Memory>
     ensures messages { IfOk result (λ held. messages_of held.items ≡ waiting_of said.now) }
     ensures held { IfOk result (λ held. AreHeld held.items) }
@@ -59,6 +61,7 @@ pub fn to_wait(alloc: Global, said: &[Message]) -> Result<Vec<Held>, Memory>
 }
 
 /// Makes room for messages that are to wait.
+/// - `ready`, `waits`: there is room for these and for no others; what waits stays as it is.
 pub fn make_room(waits: &mut Pending<Message>, held: &[Held]) -> Result<(), Memory>
     ensures waits { waits.new.waits ≡ waits.old.waits }
     ensures ready { OnOk result (waits.new.ready ≡ addresses_of held.now) }
@@ -84,6 +87,7 @@ fn put(waits: &mut Pending<Message>, one: Held)
 }
 
 /// Puts messages for which there is room. It takes no memory.
+/// - `ready`: room was made, so nothing can fail once records are written.
 pub fn keep(waits: &mut Pending<Message>, held: Vec<Held>)
     requires ready { waits.old.ready ≡ addresses_of held.items }
     requires held { AreHeld held.items }

@@ -33,6 +33,10 @@ use std::alloc::Global;
 use tables_ahead::Known;
 
 /// The answer to a message.
+/// - `is`: the fault of the message's verdict, with the block that belongs to it, or its records and what is said then.
+///   A message that is taken wants the keys at once that its blocks say are missing, in their order, where they are of
+///   outgoing sequences; else no key moves.
+/// - `stored`: the records may be written.
 pub fn receive(
     alloc: Global,
     tables: &Tables,
@@ -145,6 +149,7 @@ fn taken(
 }
 
 /// The answer to bytes that were refused.
+/// - `is`: the fault of their refusal.
 pub fn refuse(
     alloc: Global,
     tables: &Tables,

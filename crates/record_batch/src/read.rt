@@ -302,6 +302,9 @@ fn take_records<'a>(
 
 /// The records of a batch, of which nothing is left out and behind which nothing stands. The text of a parameter is the
 /// one that is written of it. Lapses and parameters beyond the limits of what messages may hold are read as well.
+/// - NotABatch: exactly where the bytes are no batch, with its place: 0 where the number of records is cut or 0, else
+///   where the first record begins that can't be read, or behind the last one where bytes stand behind it (`err`,
+///   `ok`).
 #[tactic(auto, unfolding(crate::specs::Batch::batch_at, crate::specs::Refused::refused_place))]
 pub fn read_batch(alloc: Global, bytes: &[u8]) -> Result<Items<Record>, BatchError>
     // What is read.

@@ -25,7 +25,8 @@ pub struct Reply {
     pub body: Blob,
 }
 
-/// The response to a message that the node took.
+/// The response to a message that the node took. A reply goes back with 200; a fault with 400 where its code is Sender,
+/// and else with 500, and with 500 always in SOAP 1.1; where there is none, 202 and no body.
 pub fn reply_to(
     alloc: Global,
     verdict: Option<FaultKind>,
@@ -78,7 +79,9 @@ fn status_of_code(code: FaultCode) -> u16
     }
 }
 
-/// The response to a request that could not be read, where it gets one.
+/// The response to a request that could not be read, where it gets one. A bad head gets 400 and nothing; a body that is
+/// too long the fault with its status; what is not served its status and nothing; a request that broke off, and a call
+/// that failed, no answer.
 pub fn refusal_to(alloc: Global, error: HttpError, media: Media) -> Result<Option<Reply>, Memory>
     requires { IsRefusal error }
     ensures is { IfOk result (λ reply. reply ≡ refusal_to media error) }
@@ -128,6 +131,7 @@ fn too_long(alloc: Global, media: Media) -> Result<Reply, Memory>
 }
 
 /// The response to a body that is refused: the fault of that refusal, wherever it is to go.
+/// - `is`: in the version of SOAP that is asked for, with the status of its kind.
 pub fn fault_reply(alloc: Global, refusal: &Refusal, media: Media) -> Result<Reply, Memory>
     ensures is { IfOk result (λ reply. reply ≡ fault_reply media refusal.now) }
     ensures status { IfOk result (λ reply. IsWritten reply.status) }

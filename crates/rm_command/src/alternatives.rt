@@ -25,6 +25,8 @@ use soap_document::profile::EnvelopeError;
 use std::alloc::Global;
 
 /// Reads a policy, and prints its normal form.
+/// - `ends`: at 0 the bytes, at most 2097152, are a policy within the limits, and what was written is the text of the
+///   rising list of exactly the sets of assertions that it admits; at 9 the fault that is named is their first.
 pub fn normal<S: Source, K: Sink>(alloc: Global, input: &mut S, out: &mut K) -> End
     ensures ends { EndsNormal result (edge_of S.told K.told K.wants_memory input.old input.new out.old out.new) }
     ensures kept { KeepsEdge envelope_bytes result
@@ -42,6 +44,9 @@ pub fn normal<S: Source, K: Sink>(alloc: Global, input: &mut S, out: &mut K) -> 
 }
 
 /// Reads a pair of policies, and prints what both have in common.
+/// - `ends`: at 0 the bytes are a pair of policies within the limits, and what was written is the text of exactly the
+///   unions of compatible alternatives of both; at 9 the fault that is named is the first, where the first policy comes
+///   before the second, and what they have in common after both.
 pub fn intersect<S: Source, K: Sink>(alloc: Global, input: &mut S, out: &mut K) -> End
     ensures ends { EndsIntersect result (edge_of S.told K.told K.wants_memory input.old input.new out.old out.new) }
     ensures kept { KeepsEdge envelope_bytes result

@@ -10,6 +10,8 @@ use rm_base::{Sink, Source};
 use std::alloc::Global;
 
 /// Reads a message, and prints what it says.
+/// - `ends`: at 0 the bytes, at most 2097152, spell a message, and what was written is `message_lines` of it; at 9 the
+///   fault that is named is the kind of their first refusal.
 pub fn check<S: Source, K: Sink>(alloc: Global, input: &mut S, out: &mut K) -> End
     ensures ends { EndsCheck result (edge_of S.told K.told K.wants_memory input.old input.new out.old out.new) }
     ensures kept { KeepsEdge envelope_bytes result

@@ -26,6 +26,14 @@ use rm_script::soak::number_in;
 use std::alloc::Global;
 
 /// Does what the words say, those after the program's name, and answers the exit status.
+/// - `runs`: there is no status but those of `status_of`. At 4, 8, 3 and 9 the stage is as it was; 4 comes only where
+///   the input's count of faults rose, 8 only where more bytes than the command's limit were taken, 5 only where the
+///   output's count rose and all of the text was made. At 10 nothing was written, where the output's calls want no
+///   memory. Only `replay` and `soak` change the stage, and the counts of faults stay where the input or the output
+///   tells that it never fails.
+/// - `status`: 2 comes exactly where the words are no command. Of bytes that are what the command reads comes 0, 5, 4
+///   or 10; of others 3 (`replay`) or 9, 4 or 10; of more bytes than its limit, 16777216 or 2097152, 8, 4 or 10. Of
+///   `soak` comes 0, 5 or 10.
 pub fn run<S: Source, K: Sink, M: CrashDisk, W: Wire>(
     alloc: Global,
     words: &[Blob],

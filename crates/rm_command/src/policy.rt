@@ -11,6 +11,8 @@ use rm_base::{Sink, Source};
 use std::alloc::Global;
 
 /// Reads an assertion, and prints what it says.
+/// - `ends`: at 0 the bytes, at most 2097152, are an assertion, and what was written is `policy_text` of it; at 9 the
+///   fault that is named is their first: no UTF-8, no document, a malformed element, security that is asked for.
 pub fn policy<S: Source, K: Sink>(alloc: Global, input: &mut S, out: &mut K) -> End
     ensures ends { EndsPolicy result (edge_of S.told K.told K.wants_memory input.old input.new out.old out.new) }
     ensures kept { KeepsEdge envelope_bytes result

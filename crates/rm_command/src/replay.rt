@@ -19,6 +19,10 @@ use rm_script::{ScriptError, read_script};
 use std::alloc::Global;
 
 /// Reads a script, plays it over the stage, and prints the report.
+/// - `ends`: at 0 the bytes that were read are a script, all of its lines were played by the protocol, what was written
+///   is the report, and what each source ever accepted is what the report says was sent. At 3 the line that is named is
+///   the first bad one. At 10 the stage and the output are as they were, or some first lines were played, or all were
+///   and some first bytes of the report were written.
 pub fn replay<S: Source, K: Sink, M: CrashDisk, W: Wire>(
     alloc: Global,
     input: &mut S,

@@ -22,6 +22,8 @@ use rm_script::{Event, ScriptError, read_script};
 use std::alloc::Global;
 
 /// Plays the script of a number over the stage, and prints the summary of its report. Nothing is read.
+/// - `ends`: the script was played as `replay` plays one that it reads, and what was written is the summary of its
+///   report. At 10 the script was played whole, or as `replay` leaves it where memory runs out before the last line.
 pub fn soak<K: Sink, M: CrashDisk, W: Wire>(
     alloc: Global,
     number: u64,

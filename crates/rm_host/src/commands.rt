@@ -29,6 +29,9 @@ use rm_sides::destination::Incoming;
 use std::alloc::Global;
 
 /// Makes a node on an empty disk.
+/// - `makes`: it prints `made` where the disk had no bytes, and then it has a node of this number and address; it
+///   refuses a disk exactly where that has bytes, which stay. Where memory was wanting the disk is as it was or has an
+///   empty journal, or the node was made already. The link is asked for nothing.
 pub fn make<D: Disk, L: Link, C: Clock>(
     alloc: Global,
     host: &mut Host<D, L, C>,
@@ -65,6 +68,9 @@ pub(crate) fn check_empty<D: Disk, L: Link, C>(host: &mut Host<D, L, C>) -> Resu
 }
 
 /// One tick, and what it gave is posted.
+/// - `does`: one call of the node that the disk had, at the moment that the clock shows; what that hands out is posted
+///   in one row. It prints how many packets were answered and how many missed, where each found a connection, and ends
+///   with 7 otherwise.
 pub fn push<D: Disk, L: Link, C: Clock>(
     alloc: Global,
     host: &mut Host<D, L, C>,
@@ -156,6 +162,8 @@ fn posted_text(alloc: Global, posted: Posted) -> Result<Blob, Memory>
 }
 
 /// What is in an inbox.
+/// - `does`: no call of the node is made. It prints the payloads that aren't gone, each with its number, and how many
+///   items the inbox has, the gone ones too.
 pub fn inbox<D: Disk, L: Link, C: Clock>(
     alloc: Global,
     host: &mut Host<D, L, C>,
@@ -203,6 +211,10 @@ fn items_text(alloc: Global, seq: u32, incoming: &Incoming) -> Result<Blob, Memo
 }
 
 /// The journal is written anew, and has what the node's records say in short.
+/// - `compacts`: two counts are printed: the entries that the journal had, and the records of their snapshot. A crash
+///   since the node was found leaves its batches in the old bank or those of the snapshot in the new one. It refuses
+///   with StoreFull, and the disk has what was found then; after want of memory the disk is as it reads, or was written
+///   anew already.
 pub fn compact<D: Disk, L: Link, C: Clock>(
     alloc: Global,
     host: &mut Host<D, L, C>,

@@ -25,6 +25,9 @@ use std::alloc::Global;
 
 /// Prints the items of an inbox past the cursor up to one, and records then that they were consumed. Where it stops
 /// between the two, the items are printed again by the next one: each comes to the application at least once.
+/// - `consumes`: where a cursor is printed, all items past the cursor of the node that was found, up to the one that
+///   was asked for, had been written, and then the record was. Where it ends before that, nothing was recorded, or the
+///   items had all been printed.
 pub fn consume<K: Sink, D: Disk, L: Link, C: Clock>(
     alloc: Global,
     host: &mut Host<D, L, C>,

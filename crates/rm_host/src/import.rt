@@ -17,6 +17,10 @@ use std::alloc::Global;
 
 /// Reads a journal of the layout before, to the end of the input, and makes an empty disk that of its node. After a
 /// fault of the disk and want of memory an empty disk holds anything; where the bytes make no node it stays empty.
+/// - `imports`: where a count is printed, the input was the journal of a node by the layout before, of so many batches;
+///   a disk that tells was empty, and has the batches now, in the first bank and for good. It refuses where the disk
+///   had bytes or the journal would be longer than 268435456, and ends with 11 where the input is no node's journal.
+/// - `spared`: a disk that tells and had a byte has made no call that changes it.
 pub fn import<D: Disk, L: Link, C: Clock, S: Source>(
     alloc: Global,
     host: &mut Host<D, L, C>,

@@ -25,6 +25,19 @@ use std::alloc::Global;
 use std::process::ExitCode;
 
 /// Does what the words say, and answers the exit status.
+/// - `obeyed`: what each command does to the disk and to what the link brings, how it ends and what it prints is what
+///   its own function claims, with the values of the words. What a command leaves on a disk that tells, as it reads and
+///   after any crash then, is the batches that it found there with the records of its calls behind them. What is
+///   written of how it ended is its text, or the line of its refusal: all of it, or some first bytes where a write
+///   failed or memory was wanting. 9 comes only where a call of the node refuses, the disk of `make` or `import` has
+///   bytes, `import` brings a list that is too long, `inbox` or `consume` names no such sequence or item, or an address
+///   can't be reached.
+/// - `status`: 2 comes exactly of words that are no command. 4 comes only of `send` and `import` and only where the
+///   input's count of faults rose, 5 only where the output's did, 7 only where the link's did, 6 exactly where the
+///   disk's did. 8 comes only of `send`, where more than 1048576 bytes were taken, and of `import`, where more than
+///   268435456 were. There is no status but 0, 2 and 4 to 11.
+/// - `complete`: where no count of faults rises, 0, 2, 8, 9, 10 or 11 comes.
+/// - `lost`: over a sound link 7 comes only where an accept or a dial found no connection left, and none is left then.
 pub fn run<S: Source, K: Sink, D: Disk, L: Link, C: Clock>(
     alloc: Global,
     words: &[Blob],

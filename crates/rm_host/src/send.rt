@@ -29,6 +29,11 @@ use std::alloc::Global;
 
 /// Reads a payload, and sends it to an address: on the first sequence to it that is open or asked for, or else on a new
 /// one. Where a packet found no connection that is told when all else is done.
+/// - `does`: the bytes go on the first sequence to the address that is open or asked for, behind a tick, or on a new
+///   one whose answers come back on the connection; what this hands out is posted before the message is sent, and what
+///   the message hands out after it. Where a packet of the first found no connection it sends only on a sequence that
+///   is open. It prints the sequence, the number that the payload got, and `yes` exactly where that number is
+///   acknowledged at the end.
 pub fn send<D: Disk, L: Link, C: Clock, S: Source>(
     alloc: Global,
     host: &mut Host<D, L, C>,

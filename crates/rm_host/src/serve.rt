@@ -31,6 +31,10 @@ pub struct Tally {
 
 /// Takes so many connections, one after the other, of peers that speak this version of SOAP, and posts after each what
 /// is due.
+/// - `does`: it announces what its word says, listens at its port, and takes connections one after the other; fewer
+///   only where it ends before: a port that can't be listened to, no connection, a call of the node that fails. After
+///   each comes one tick, and the packets of both are posted in one row.
+/// - `tally`: where it ends well it tells of as many connections as it was to serve, each served well or given up.
 pub fn serve<D: Disk, L: Link, C: Clock>(
     alloc: Global,
     host: &mut Host<D, L, C>,

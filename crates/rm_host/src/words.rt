@@ -112,7 +112,8 @@ fn is_node_name(name: &[u8]) -> bool
         || name == b"import".as_slice()
 }
 
-/// The command that the words ask for.
+/// The command that the words ask for. An address is refused exactly where it is none at all or no URL of http with a
+/// host, and all else of the words is a command. `serve` is read as serving in SOAP 1.2, and `serve11` in SOAP 1.1.
 pub fn command_of(alloc: Global, words: &[Blob]) -> Result<Command, End>
     ensures { Reads words.now result }
 {

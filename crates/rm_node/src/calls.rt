@@ -139,7 +139,7 @@ impl Node {
 
     /// Consumes the items of an incoming sequence's inbox up to one, counted from 1. Call it once the application has
     /// taken them for good: a crash before that leaves them to be taken again. Where the cursor is there already,
-    /// nothing is written.
+    /// nothing is written. It hands nothing out, and begins and ends no key.
     pub fn consume<D: Disk>(&mut self, disk: &mut D, seq: u32, upto: u64) -> Result<(), NodeError>
         requires { HasBatches D.tells (D.told disk.old) self.old }
         ensures { Steps D.tells (D.told disk.old) (D.told disk.new) self.old self.new 0 (Consumes seq upto)
@@ -162,7 +162,9 @@ impl Node {
         Ok(reaction.outs)
     }
 
-    /// Ends the incoming sequences whose time has run out at a moment, and hands out again what is due then.
+    /// Ends the incoming sequences whose time has run out at a moment, and hands out again what is due then. It hands
+    /// out exactly the first 64 keys that are due, by class and then by age, each as its message or request, and moves
+    /// each to its next class.
     pub fn tick<D: Disk>(&mut self, disk: &mut D, now: u64) -> Result<Outs, NodeError>
         requires has { HasBatches D.tells (D.told disk.old) self.old }
         requires now { now ≤ now_max }
@@ -176,6 +178,12 @@ impl Node {
 
     /// Takes bytes that came from a peer on a connection. No bytes are refused: those that are no message, or a message
     /// that is not taken, are answered with a fault.
+    /// - `kinds`: no error but Memory, Disk and Down comes.
+    /// - `steps`: a verdict comes exactly where it is the first kind of fault that holds of the bytes, or the store has
+    ///   no room; records, time and keys are as before, and a fault for an address that nobody can reach waits. A
+    ///   MakeConnection that is taken is given the oldest message that waits for its address, with MessagePending, its
+    ///   own blocks and behind them those of the acknowledgements that go back on the connection. A message that was
+    ///   fetched waits on where the disk failed.
     pub fn receive<D: Disk>(
         &mut self,
         disk: &mut D,

@@ -16,7 +16,10 @@ impl Node {
     /// own. The payloads that nobody needs any more are given up: those of the first messages of an outgoing sequence
     /// that are acknowledged, and the items of an inbox that were consumed. What the node says and what waits stays as
     /// it is. It makes five device calls. A crash leaves the journal that stood, or the fresh one; after Disk the node
-    /// is down until it is mounted again.
+    /// is down until it is mounted again. The batches that a crash leaves are those of a node.
+    /// - Down: exactly where the node is down.
+    /// - StoreFull: exactly where `Store::compact` answers Full.
+    /// - Disk: exactly where StoreFull doesn't hold and the fuse lies among the device calls.
     pub fn compact<D: Disk>(&mut self, disk: &mut D) -> Result<(), NodeError>
         requires has { HasBatches D.tells (D.told disk.old) self.old }
         ensures { IsCompacted D.tells (D.told disk.old) (D.told disk.new) self.old self.new (compact_end result) }

@@ -61,6 +61,7 @@ impl Model for Node {
 impl Node {
     /// Makes a disk that of a node with this number and address. What it held is lost; after want of memory the disk is
     /// as it was or has an empty journal, and after a fault of the disk it holds anything.
+    /// - Disk: not on a disk that is not armed, and none is armed then (`unarmed`, `cause`).
     pub fn make<D: Disk>(
         alloc: Global,
         disk: &mut D,
@@ -92,6 +93,8 @@ impl Node {
     /// Finds the node that a disk holds. It answers NotAJournal exactly where the disk, as it reads, holds no batches
     /// of a node. What the node kept besides is not on the disk: all keys that wait by its records are due at once, and
     /// no message waits.
+    /// - NotAJournal: by the tests of `Store::mount` (`none`, `found`).
+    /// - Disk: not on a disk that is not armed (`unarmed`, `cause`).
     pub fn mount<D: Disk>(alloc: Global, disk: &mut D) -> Result<Node, MountError>
         ensures found { IsTrue D.tells →
             IfOk result (λ node. Finds (D.told disk.old).past (D.told disk.new).past node.stored) }
@@ -127,6 +130,9 @@ impl Node {
     /// the first of them it tests the bytes, for which it takes memory for three copies of the journal. It answers
     /// NotAJournal exactly where they stand for no batches of a node, by the tests of `mount`, and Full where its
     /// journal would be longer than one may be. What the disk held is lost, and after Disk it holds anything.
+    /// - `imported`, `kept`: on any disk the node is the one of those batches, with what a mount would give it; a disk
+    ///   that tells has them, for good.
+    /// - Disk: exactly where the fuse lies among the device calls (`cause`, `fuse`, `unarmed`).
     pub fn import<D: Disk>(alloc: Global, disk: &mut D, bytes: &[u8]) -> Result<Node, ImportError>
         ensures imported { IfOk result (λ node. Imports D.tells bytes.now (D.told disk.new).past node.stored) }
         ensures none { result ≡ Err BytesAreNone → IsNoNodeBefore bytes.now }

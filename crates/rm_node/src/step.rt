@@ -39,6 +39,20 @@ fn verdict(outcome: Outcome) -> Option<FaultKind>
 impl Node {
     /// Does what is asked, at a moment in milliseconds since 1970: all memory is taken first, then the records are
     /// written in one batch, and then keys and messages begin and cease to wait, and the packets are handed out.
+    /// Packets are handed out only where the records are on the disk, for good on a disk that tells, and are the texts
+    /// of what the protocol's answer says. The reply is the text of the message that was fetched, or else of the one
+    /// for whoever is at the other end of the connection, where the call came on one; no other packet is for that
+    /// address. On a disk that tells, a crash at any moment leaves the batches as they were or with the answer's, and
+    /// both are those of a node. After a call that went well the node keeps what the protocol makes of it: what is
+    /// announced, the keys that wait, which are exactly those that wait by the records, the greatest moment of a tick,
+    /// and the messages that wait to be polled; after one that did not, none of this has changed.
+    /// - Down: exactly where an earlier call of this node answered Disk.
+    /// - Memory: not in place of Down; no device call was made, and the node is as before.
+    /// - Disk: exactly where the protocol's answer has records and the fuse lies among the four device calls; the node
+    ///   is down.
+    /// - NoSequence, WrongSide, PayloadTooLong, BadPayload, NotOpen, WindowFull, NodeFull, Rollover, TooManySequences,
+    ///   StoreFull, PastInbox: exactly where it is the answer of the protocol's call: the definitions of
+    ///   `rm_protocol/specs/Calls` are the table.
     pub fn step<D: Disk>(
         &mut self,
         disk: &mut D,

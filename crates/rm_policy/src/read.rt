@@ -33,6 +33,12 @@ struct Delivery {
 }
 
 /// The assertion that a document is.
+/// - TooLong, NotUtf8, NotProfile: in Envelope: exactly with the first cause that the bytes are no document; no other
+///   comes in Envelope (`reads`).
+/// - Malformed, SecurityUnsupported: exactly where they are a document whose root is read so (`reads`). Malformed comes
+///   whether or not security is asked for; SecurityUnsupported has the local name of the first element that asks for
+///   it.
+/// - `writable`: InOrder is read only beside an assurance.
 pub fn read_assertion(alloc: Global, bytes: &[u8]) -> Result<Assertion, PolicyError>
     ensures reads { Reads bytes.now result }
     ensures writable { IfOk result IsWritable }
@@ -42,6 +48,8 @@ pub fn read_assertion(alloc: Global, bytes: &[u8]) -> Result<Assertion, PolicyEr
 }
 
 /// The assertion that an element is. It answers no `Envelope`.
+/// - Malformed, SecurityUnsupported: exactly where the element is read so; no other answer but Memory comes
+///   (`answers`).
 pub fn read_assertion_element(alloc: Global, element: &Element) -> Result<Assertion, PolicyError>
     ensures answers { Answers result (assertion_of (element_view element.now)) }
     ensures writable { IfOk result IsWritable }

@@ -40,7 +40,9 @@ use record_batch::snapshot::{
 };
 
 /// Whatever is sent, lost, repeated, reordered and consumed, and whichever node crashes at whichever device call, every
-/// run keeps the headline at each pair of images of both disks, and so it keeps what is said of loose sequences.
+/// run keeps the headline at each pair of images of both disks, and so it keeps what is said of loose sequences. It is
+/// so where nodes write the lists of their entries anew, at any moment and with a crash at any of the five device
+/// calls.
 pub fn every_run_keeps_the_word()
     ensures { (terms : Terms) (one two : Text) → AreTerms terms → AreMade terms one two → (events : List Event)
         → KeepsAll (run terms events (start one two)) }
@@ -51,7 +53,9 @@ pub fn every_run_keeps_the_word()
     a_snapshot_is_proper();
 }
 
-/// Each line of a script keeps what holds of both nodes and of all packets.
+/// Each line of a script keeps what holds of both nodes and of all packets. So the records on each disk say what all
+/// that its node ever had say, but for items that are gone; each of them may come after those before it, and by all
+/// that a node ever had nothing is gone.
 pub fn every_step_keeps_the_agreement()
     ensures { (terms : Terms) (w : World) (event : Event) → AreTerms terms → IsSound terms w
         → IsSound terms (happens terms w event) }
@@ -104,6 +108,8 @@ pub fn a_delivered_message_is_taken()
 }
 
 /// A message brings no other records than those of the receiving table: Received is its data, and nothing is accepted.
+/// Granted is for the message's CreateSequence, Acked has the numbers of one of its blocks, and nothing is asked for,
+/// nor closed or ended by an operator or a deadline.
 pub fn only_what_was_heard_is_recorded()
     ensures { OnlyHeardIsRecorded }
 {}
@@ -113,12 +119,15 @@ pub fn a_final_acknowledgement_closes()
     ensures { FinalCloses }
 {}
 
-/// Each record that a call adds may come next, where those before the call could.
+/// Each record that a call adds may come next, where those before the call could. So for every call, and for every
+/// message whose MessageNumber is from 1 to 9223372036854775807 and whose acknowledged ranges are ranges of such
+/// numbers; of the terms it asks that a duration ends after it begins.
 pub fn each_record_may_come_next()
     ensures { EachMayComeNext }
 {}
 
-/// At each image of each disk, what a source ever accepted is what the report says was sent.
+/// At each image of each disk, what a source ever accepted is what the report says was sent. A send counts where it was
+/// done, or where the disk failed and the next crash prints one entry more.
 pub fn accepted_is_sent()
     ensures { AcceptedIsSent }
 {}
@@ -291,7 +300,8 @@ pub fn what_begins_waits()
 {}
 
 /// The keys of what waits are, as a set, exactly those that wait by the records: after a mount, and after each call as
-/// before it, where what begins with its records waits by all of them.
+/// before it, where what begins with its records waits by all of them. A key is a message that is not acknowledged
+/// where messages are sent again, or the request of a sequence in Creating, Closing or Ending.
 pub fn what_waits_stays_exact()
     ensures mounted { IsExactAtFirst }
     ensures after { StaysExact }
@@ -367,7 +377,11 @@ pub fn a_crash_loses_what_waits()
 {}
 
 /// What holds of two nodes of different numbers, and of all that each of them said, is kept by whatever befalls one of
-/// them: each of its calls, a crash inside one too, and each message that comes, be it the other's or a stranger's.
+/// them: each of its calls, a crash inside one too, and each message that comes, be it the other's or a stranger's. A
+/// stranger's message names no sequence of the two where it has data, acknowledges or ends, is no CreateSequence with a
+/// MessageID that the other one issues, and answers none between them. Which records a node added or is writing is told
+/// too: an item that was accepted is one record, what a message brings is of the receiving table, and what was fetched
+/// had waited there.
 pub fn two_nodes_stay_a_pair()
     ensures { StaysAPair }
 {
@@ -392,7 +406,8 @@ pub fn a_pair_tells()
     ensures { APairTells }
 {}
 
-/// No text is issued by two nodes.
+/// No text is issued by two nodes. Their numbers are different and below 2^60, and the numbers that they draw below
+/// 2^62.
 pub fn an_identifier_tells_its_node()
     ensures { IssuedByOne }
 {}

@@ -169,7 +169,7 @@ pub fn may_forward(tables: &Tables) -> bool
 
 /// Forwards the next item of the first incoming sequence into the first outgoing one: the record that accepts it is the
 /// only commit, so that a crash inside leaves it forwarded or not. None where the inbox has no item that was not
-/// forwarded. It refuses as `Node::send` does.
+/// forwarded. It refuses as `Node::send` does. Where it wants memory, or at a node that is down, nothing happens.
 pub fn forward<D: Disk>(node: &mut Node, disk: &mut D) -> Result<Option<Outs>, NodeError>
     requires has { HasBatches D.tells (D.told disk.old) node.old }
     requires may { MayForward node.old.stored.records }

@@ -24,6 +24,13 @@ use std::alloc::Global;
 /// Reads a script, plays it over the stage, prints the report, and answers the exit status: 0, 3 for a line that is not
 /// in the grammar, 4 and 5 for a read and a write that failed, 8 for a script that is too long, and 10 where memory ran
 /// out.
+/// - `promise`: at each three images of the disks, what node 2 accepted on its first outgoing sequence is a prefix of
+///   what it consumed of its first incoming one followed by the items past the cursor, and what node 3 consumed and
+///   holds on the matching sequence is a prefix of what node 1 accepted. It holds at 0 and 5, and at 10, unless the
+///   stage is as it was or a node was not made; at each other status nothing changed.
+/// - `ends`: at 0 all lines were played, the disks and the wire hold what is there then, and what was written is the
+///   report; the promise is by all that the nodes of that very run ever had. At 10 some first lines were played, and of
+///   the next one perhaps all but some last of its packets, or a node was not made and no line was played.
 pub fn relay_run<S: Source, K: Sink, M: CrashDisk, W: Wire>(
     alloc: Global,
     input: &mut S,

@@ -12,6 +12,7 @@ use rm_script::script::{count_of_lines, first_line};
 use std::alloc::Global;
 
 /// Reads a script: one event a line, empty lines and comments among them, so that an event's place tells its line.
+/// - BadLine: exactly with the first line that is not in the grammar (`script`, `bad_line`).
 pub fn read_relay(alloc: Global, bytes: &[u8]) -> Result<Vec<Event>, ScriptError>
     ensures script { IfOk result (λ events. IsScript (lines_of bytes.now) events.items) }
     ensures bad_line { (line : ℕ) → result ≡ Err (ScriptError.BadLine line) → IsFirstBad (lines_of bytes.now) line }

@@ -28,7 +28,7 @@ pub fn there_are_nets()
     there_are_own_terms();
 }
 
-/// A script that was played is a run of the protocol.
+/// A script that was played is a run of the protocol. So what a law says of the worlds of all runs holds there.
 pub fn a_played_script_is_a_run()
     ensures { (terms : Terms) (script : List Said) (s : Story) → Played terms script s
         → (events : List Happening) × (s.world ≡ run terms events start_world) }
@@ -61,7 +61,8 @@ pub fn a_played_script_keeps_the_headline()
 }
 
 /// At each pair of images of both disks, all that a source ever accepted, of which the headline speaks, is what the
-/// report of a played script says was sent.
+/// report of a played script says was sent. A `send` counts whose line came out as `ok`, or as `disk` where the next
+/// crash of its node prints one entry more, or where none follows the image has one.
 pub fn what_was_accepted_was_sent()
     ensures { (terms : Terms) (script : List Said) (s : Story) → AreOfNet terms → AllByRecursion IsWithin script
         → Played terms script s → (scene : Scene) → Holds s.world scene → AcceptedIsSent script s.report scene }

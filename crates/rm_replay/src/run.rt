@@ -45,7 +45,8 @@ fn make<M: CrashDisk, W: Wire>(alloc: Global, stage: &mut Stage<M, W>) -> Result
     Ok(Nodes { one, two })
 }
 
-/// Appends what the node with a number knows in the end.
+/// Appends what the node with a number knows in the end. These are the lines of its sequences where it is up, and else
+/// that it is down.
 pub fn push_known(report: &mut Blob, number: u64, actor: &Actor) -> Result<(), Memory>
     ensures { (x : Value) (now : Told) → Stands x now actor.now
         → OnOk result (report.new ≡ report.old ++ known_text number x) }
@@ -58,6 +59,14 @@ pub fn push_known(report: &mut Blob, number: u64, actor: &Actor) -> Result<(), M
 
 /// Makes two nodes on disks that aren't armed, plays a script over them and a wire without packets, and answers the
 /// report. Where a node found no memory when it was made, no line was played, and the headline is not said.
+/// - `ok`: all lines were played, one after the other, each as a step of the protocol. Each image of each disk stands
+///   for entries that one more crash of its node leaves. The wire has the texts of all packets that were sent, in
+///   order, each for the other node. The report is the lines' and then what both nodes know. Each disk had exactly the
+///   crashes of its node's lines, in order, and its count of faults rose by as many at least as lines of its node came
+///   out as `disk`.
+/// - `err`: a node was not made; or some first lines were played, and of the next one nothing, or its records and some
+///   first of its packets. If that line is a crash, the disk of its own node may have had it.
+/// - `loose`, `loose_short`: what is said of loose sequences, for the same images and the same records.
 pub fn run_script<M: CrashDisk, W: Wire>(
     alloc: Global,
     stage: &mut Stage<M, W>,

@@ -37,7 +37,9 @@ pub fn no_bad_line()
         → ¬ (IsFirstBad lines line) }
 {}
 
-/// What a script says is within its limits: each number and each duration.
+/// What a script says is within its limits: each number and each duration. The limits are: sequences 1 to 256, packets
+/// 1 to 65536, items of an inbox 1 to 9223372036854775807, device calls 1 to 1000, ways to crash 0 to 3, moments up to
+/// 200000000000000, durations that may be written, no empty text and no empty noise.
 pub fn values_are_within()
     ensures { (lines : List (List ℕ)) (events : List Said) → IsScript lines events
         → AllByRecursion IsWithin events }

@@ -37,6 +37,7 @@ impl From<AllocError> for ScriptError {
 
 /// Reads a script: one event a line, empty lines and comments among them, so that an event's place tells its line. Room
 /// for all events is made at once; besides it, memory is taken for texts and noise alone.
+/// - BadLine: exactly with the first line that says nothing that a script may say, counted from 1 (`bad_line`).
 pub fn read_script(alloc: Global, bytes: &[u8]) -> Result<Vec<Event>, ScriptError>
     ensures script { IfOk result (λ events. IsScript (lines_of bytes.now) events.items) }
     ensures bad_line { (line : ℕ) → result ≡ Err (ScriptError.BadLine line) → IsFirstBad (lines_of bytes.now) line }

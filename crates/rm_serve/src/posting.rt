@@ -31,6 +31,12 @@ const MOST_POSTS: u32 = 256;
 
 /// Posts packets of SOAP 1.2, one after the other, and gives each response that has a body to the node. What the node
 /// hands out then is posted too, up to 256 packets in all.
+/// - `posts`: packets go in their order, each to the host and port of its own address, and what the node hands out goes
+///   behind them. What each response with a body that isn't empty has is given to the node once. `sent` counts those
+///   that were answered, `missed` the others, `undialled` those of them that found no connection.
+/// - Disk, Down: exactly where a call of the node answered it; packets up to that one were posted (`posts`, `cause`,
+///   `down`).
+/// - Memory: some first packets were posted, and what came back of them given to the node (`posts`).
 pub fn post_due<D: Disk, L: Link>(
     alloc: Global,
     node: &mut Node,

@@ -37,6 +37,17 @@ pub struct Served {
 }
 
 /// Reads one request of SOAP 1.2, gives its body to the node, and writes the answer.
+/// - `serves`: one request is read first; by then nothing is written but what `Expect` gets. Of a request that was read
+///   the body, and no other bytes, is given to the node in one call; of one that was not no call is made. The answer is
+///   that of `rm_answer`, by the verdict and the reply of that call, and no more than some first bytes of it are
+///   written where memory was wanting or a write failed.
+/// - Dropped: with the error of the request where that was not read, or else WriteFault; with ReadFault or WriteFault
+///   only where the count of the connection rose.
+/// - Disk, Down: exactly where the call of the node answered it; of the answer nothing was written (`serves`, `cause`,
+///   `down`).
+/// - Memory: some first steps were made: the request was read, the body given to the node, some first bytes of the
+///   answer written (`serves`).
+/// - `ready`: a node that is up, and its disk where it tells, have the same batches afterwards, if they had before.
 pub fn serve_one<D: Disk, C: Connection>(
     alloc: Global,
     node: &mut Node,
@@ -62,6 +73,8 @@ pub fn serve_one<D: Disk, C: Connection>(
 
 /// Reads one request of SOAP 1.1, gives what its body is lifted to to the node, and writes the answer, lowered. A body
 /// that is no message of SOAP 1.1 is answered with its fault and is not given to the node.
+/// - `serves`: as `serve_one`, but that the node is given what the message is lifted to, and that there is no answer
+///   where the reply is no message or SOAP 1.1 has no code for its fault.
 pub fn serve_one11<D: Disk, C: Connection>(
     alloc: Global,
     node: &mut Node,

@@ -38,6 +38,10 @@ use wsa_headers::{addressing_blocks_are_told, addressing_is_read_back};
 
 /// The text of a message that keeps the rules spells this message, where it is no longer than a message may be: what
 /// is written is read. So it is with SOAP 1.2, and wherever SOAP has another namespace than WS-Addressing and SOAP 1.1.
+/// - `twelve`: decoding gives the message back in every part: addressing properties with their parameters, number,
+///   acknowledgements, requests for one, MessagePending, the names that were not understood, and the body, be it empty,
+///   a payload (to the byte, with the bindings of the frame), an element of a sequence's life, or a fault with its
+///   codes, reason and detail.
 pub fn what_is_written_is_read()
     ensures any { (soap : List ℕ) (m : Value) → KeepsRules soap m → MayBeSoap soap → is_soap11 soap ≡ false
         → soap ≢ addressing_space → length (message_text soap m) ≤ envelope_bytes
@@ -88,7 +92,8 @@ pub fn a_fault_of_soap11_is_read()
 
 /// The text of a message in SOAP 1.1 spells this message there, where SOAP 1.1 can say it and the text is no longer
 /// than
-/// a message may be.
+/// a message may be. SOAP 1.1 can say it where it has no names that were not understood and its fault, if it has one,
+/// is such as SOAP 1.1 tells apart.
 pub fn what_is_lowered_is_read()
     ensures { (m : Value) → KeepsRules11 m → length (message11_text m) ≤ envelope_bytes
         → Spells soap11_space (message11_text m) m }
@@ -116,7 +121,7 @@ pub fn what_is_written_has_one_message()
 }
 
 /// The fault that a refusal is answered with keeps the rules, so that it may be written, where what it takes from the
-/// refusal may be.
+/// refusal may be. What it takes is the endpoint, the addresses, the names, the identifier and the acknowledgement.
 pub fn a_fault_keeps_the_rules()
     ensures { (soap : List ℕ) (refusal : Refused) (block : Option Acknowledgement) → IsRefusalWritable refusal block
         → KeepsRules soap (fault_of refusal block) }

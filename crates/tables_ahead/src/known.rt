@@ -90,7 +90,8 @@ impl<'a> Known<'a> {
         }
     }
 
-    /// Puts one record more ahead.
+    /// Puts one record more ahead. Made doesn't go ahead, nor a record that leaves no place for the sequences that it
+    /// makes.
     pub fn push(&mut self, given: Record) -> Result<(), Memory>
         requires { may_go_ahead (all_records self.old) (fact_of given) ≡ true }
         ensures records { self.new.records ≡ self.old.records }

@@ -48,7 +48,7 @@ pub fn copy_reference(alloc: Global, reference: &Option<Epr>) -> Result<Option<E
     }
 }
 
-/// An element of text that is an address.
+/// An element of text that is an address. Malformed exactly where the element has no single Address that is an address.
 pub fn read_address_of(alloc: Global, element: &Element) -> Result<Uri, Flaw>
     ensures { Gives (λ uri. uri) result (uri_of (element_view element.now)) }
 {
@@ -153,6 +153,8 @@ pub fn read_reference(alloc: Global, element: &Element) -> Result<Epr, Flaw>
 }
 
 /// The same; where the element is none, it is a bad header of its own local name.
+/// - BadHeader: exactly where the element is no endpoint reference within the limits, with the element's name. No other
+///   answer but Memory comes.
 pub fn read_epr(alloc: Global, element: &Element) -> Result<Epr, AddressingError>
     ensures { Answers result (blamed (name_of (element_view element.now)).local (epr_of (element_view element.now))) }
 {

@@ -302,6 +302,7 @@ fn first_unreadable(alloc: Global, headers: &[Element]) -> Result<Blob, Memory>
 
 /// The addressing properties of a message with these header blocks. Blocks of other names are passed over. The first
 /// error that holds is answered: a header that stands there twice, the missing Action, a header without a value.
+/// - Cardinality, HeaderMissing, BadHeader: exactly with the first that holds of the blocks, and the header's name.
 pub fn read_addressing(alloc: Global, headers: &Elements) -> Result<Addressing, AddressingError>
     ensures { Answers result (addressing_in headers.now) }
 {

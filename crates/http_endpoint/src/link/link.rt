@@ -20,16 +20,20 @@ pub trait Link {
     /// asked for, its count of faults, and whether it fails only where there is no connection to come.
     ghost told: { Self → Net };
 
-    /// From now on connections to a port are taken.
+    /// From now on connections to a port are taken. It keeps what is to come, fails only where the count of faults
+    /// rose, and on a sound link never.
     fn listen(&mut self, port: u16) -> Result<(), Failed>
         ensures { Listens (told self.old) (told self.new) port (is_err result) };
 
     /// The next connection to the port.
+    /// - `connects`: the first of the connections to come; a call that fails takes none, and fails only where the count
+    ///   of faults rose, on a sound link exactly where none is left.
     fn accept(&mut self) -> Result<Self::Conn, Failed>
         ensures connects { Connects (told self.old) (told self.new) (brought Self.Conn.Source.told result) }
         ensures past { (told self.new).past ≡ (told self.old).past };
 
     /// A connection to a port of a host.
+    /// - `connects`, `asks`: as `accept`; the host and port are noted, whether or not a connection is made.
     fn dial(&mut self, host: &[u8], port: u16) -> Result<Self::Asking, Failed>
         ensures connects { Connects (told self.old) (told self.new) (brought Self.Asking.told result) }
         ensures asks { Asks (told self.old).past (told self.new).past (Dialled host.now port ∷ []) };

@@ -22,6 +22,13 @@ pub enum Fate {
 
 /// Posts bytes of SOAP 1.2 to an address, on a connection of their own, and reads the response. Where memory is wanting
 /// the bytes may have been sent, all or some.
+/// - `posts`: a packet whose address is no URL of http with a host is missed, and the link is as before; for any other
+///   one connection is asked for, at the host and port of its address. What is written on it is the text of the request
+///   with this packet: whole where there is a response and where the connection never fails, else some first bytes. On
+///   a connection that tells its bytes, a body that is answered is that of the response which they are.
+/// - Undialled: exactly where the address has a target and no connection was made; on a sound link none was left
+///   (`posts`).
+/// - Missed: exactly where the address has no target, or where an exchange gave no response (`posts`).
 pub fn post<L: Link>(
     alloc: Global,
     link: &mut L,

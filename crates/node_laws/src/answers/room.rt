@@ -71,7 +71,8 @@ pub fn refused(alloc: Global, cause: Cause) -> Answer
     }
 }
 
-/// An answer whose batch is short, where it fits the store, and else its refusal.
+/// An answer whose batch is short, where it fits the store, and else its refusal. The refusal has the place and the
+/// bytes.
 pub fn if_room(alloc: Global, end: u64, answer: Answer) -> Result<Answer, Memory>
     requires { length (batch_text (map fact_of answer.batch.items)) ≤ 4294967295 }
     ensures is { (terms : Terms) → AreOwn terms

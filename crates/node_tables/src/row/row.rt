@@ -95,7 +95,7 @@ impl Model for Row {
 }
 
 impl Row {
-    /// A sequence that was just made. It takes no memory.
+    /// A sequence that was just made. It takes no memory. A row changes by the step of each record alone.
     pub fn new(alloc: Global, start: Start) -> Self
         requires { IsTrue (is_timed_start start) }
         ensures { result ≡ record { told = started start; room = no_room } }

@@ -13,7 +13,7 @@ pub fn only_the_touched_are_looked_at()
 }
 
 /// Where no key has two cells, each key that has one is among some keys, and so is one more that has none, there are
-/// fewer cells than keys.
+/// fewer cells than keys. So there is room for one more, as at most 4352 keys wait by the records of a node.
 pub fn one_more_has_room()
     ensures { OneMoreHasRoom }
 {}

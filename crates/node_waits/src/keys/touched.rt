@@ -93,7 +93,8 @@ fn put_keys(rec: &Record, touched: &mut Vec<Touched>) -> Result<(), Memory>
     }
 }
 
-/// The keys that records may end, record by record.
+/// The keys that records may end, record by record. For an acknowledgement these are the keys of its numbers, range by
+/// range, and for each other record all of the sequence that it names.
 pub fn named(alloc: Global, batch: &[Record]) -> Result<Vec<Touched>, Memory>
     ensures { IfOk result (λ touched. touched.items ≡ flat_map touched_by (map fact_of batch.now)) }
 {

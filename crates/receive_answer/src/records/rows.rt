@@ -26,6 +26,8 @@ use std::mem;
 use tables_ahead::Known;
 
 /// Puts the records that a message adds ahead. Its payload is moved out.
+/// - `delta`, `records`, `rest`: they are the records of the receiving table, each reading those before it, whatever
+///   ranges of message numbers the acknowledgements have.
 pub fn put_rows(
     alloc: Global,
     ahead: &mut Known<'_>,

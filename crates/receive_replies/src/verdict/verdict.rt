@@ -56,7 +56,8 @@ fn is_for_closed(ahead: &Known<'_>, now: u64, message: &Message) -> bool
     !is_fault_body(&message.body) && is_shut_for(ahead, now, message)
 }
 
-/// The kind of the fault that answers a message, but for want of room. It takes no memory.
+/// The kind of the fault that answers a message, but for want of room. It takes no memory. It is the first kind whose
+/// test holds.
 pub fn early_verdict(ahead: &Known<'_>, now: u64, message: &Message) -> Option<FaultKind>
     ensures { result ≡ first_held (early_tests (all_records ahead.now) now message.now) }
 {

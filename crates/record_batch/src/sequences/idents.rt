@@ -32,7 +32,7 @@ fn lower_half(counter: u64) -> u64
 }
 
 /// The identifier of a node for a number that it drew, as `urn:uuid:00000000-0000-8001-8000-000000000001` for number 1
-/// of node 1.
+/// of node 1. It is the URN of version 8 of the node's number and the counter.
 pub fn issue(alloc: Global, node: u64, counter: u64) -> Result<Ident, Memory>
     requires node { node < 2 ^ 60 }
     requires counter { counter < 2 ^ 62 }

@@ -19,12 +19,12 @@ pub fn an_identifier()
     ensures { issue 1 1 ≡ codes "urn:uuid:00000000-0000-8001-8000-000000000001" }
 {}
 
-/// A node issues an identifier for one number alone.
+/// A node issues an identifier for one number alone. Node numbers are below 2^60 and counters below 2^62.
 pub fn one_number_one_identifier()
     ensures { IssuesOnce }
 {}
 
-/// Of a source: its phase, its messages, and what may come next.
+/// Of a source: its phase, its messages, and what may come next. Nothing is accepted once it is closing.
 pub fn a_closing_source()
     ensures fit { all_fit [] a_source ≡ true }
     ensures phase { phase a_source 1 ≡ Closing }
@@ -36,6 +36,7 @@ pub fn a_closing_source()
 {}
 
 /// Of a destination that discards entire sequences: nothing is released before it is told that three messages are all.
+/// Of an incomplete one all is discarded, and it ends at its deadline and not before.
 pub fn a_destination_of_all_or_none()
     ensures fit { all_fit [] a_destination ≡ true }
     ensures front { front a_destination 1 ≡ 3 }
@@ -49,7 +50,8 @@ pub fn a_destination_of_all_or_none()
     ensures found { find_incoming a_destination (issue 2 1) ≡ Some 1 }
 {}
 
-/// Of a source without its first payloads: what is there, what waits, and that nothing more goes.
+/// Of a source without its first payloads: what is there, what waits, and that nothing more goes. Those that are gone
+/// count as accepted.
 pub fn a_source_without_its_first_payloads()
     ensures fit { all_fit [] a_short_source ≡ true }
     ensures count { accepted_count a_short_source 1 ≡ 3 }
@@ -59,7 +61,8 @@ pub fn a_source_without_its_first_payloads()
     ensures once { fits a_short_source (Dropped 1 3) ≡ false }
 {}
 
-/// Of a destination without its first payloads: they are gone and not forgotten, and the cursor is behind them.
+/// Of a destination without its first payloads: they are gone and not forgotten, and the cursor is behind them. The
+/// cursor goes on to the inbox's end, not past it and not back.
 pub fn a_destination_without_its_first_payloads()
     ensures fit { all_fit [] a_short_destination ≡ true }
     ensures front { front a_short_destination 1 ≡ 3 }
@@ -81,7 +84,8 @@ pub fn a_destination_that_releases_what_comes()
     ensures discarded { discarded (a_loose_destination ++ Closed 1 Peer 4 ∷ []) 1 ≡ [] }
 {}
 
-/// Of a loose destination without a payload that isn't the first by number: it is gone and not forgotten.
+/// Of a loose destination without a payload that isn't the first by number: it is gone and not forgotten. Its place in
+/// the inbox stays, it is received no more, and the cursor goes on behind it.
 pub fn a_loose_destination_without_a_payload()
     ensures fit { all_fit [] a_short_loose_destination ≡ true }
     ensures inbox { inbox a_short_loose_destination 1 ≡ None ∷ Some (of_text (7 ∷ [])) ∷ [] }
@@ -105,7 +109,8 @@ pub fn only_the_named_sequence_changes()
     ensures { OnlyTheNamed }
 {}
 
-/// What one record more changes of the node itself.
+/// What one record more changes of the node itself. That is: its sequences, the numbers drawn, its number, its
+/// addresses, the identifiers given, and that all records fit.
 pub fn one_more_record_of_the_node()
     ensures { OneMoreOfTheNode }
 {}

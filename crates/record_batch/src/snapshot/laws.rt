@@ -23,11 +23,15 @@ pub fn sets_unite()
 }
 
 /// What is known of a node and of how far its sequences are follows from records that a snapshot leaves as they are.
+/// That is: the node's number, address and counter, each sequence's phase and identifier, whether it is closed or ended
+/// at each moment, whom it is with, and what is found by identifiers and messages.
 pub fn the_frame_decides()
     ensures { FrameDecides }
 {}
 
-/// Of two lists that say the same, the facts of each sequence are equal, but for payloads that are gone.
+/// Of two lists that say the same, the facts of each sequence are equal, but for payloads that are gone. That is: a
+/// message behind the gone ones, the first gap, whether a sequence is complete, and how long the inbox and what is
+/// discarded are. All numbers are from 1 on.
 pub fn facts_are_equal()
     ensures { FactsAreEqual }
 {}
@@ -50,7 +54,10 @@ pub fn the_inbox_past_the_cursor_is_there()
     ensures { InboxPastIsThere }
 {}
 
-/// A snapshot says the same as its records, but for payloads that are gone.
+/// A snapshot says the same as its records, but for payloads that are gone. Of the node and of how its sequences came
+/// to be it has the same records. Of a source as many messages were accepted, those behind the gone ones are the same,
+/// and the same numbers are acknowledged. Of a destination the same numbers were received, the cursor is the same, what
+/// isn't gone is the same, and nothing past the cursor is gone. Each range of an Acked record has to have a number.
 pub fn a_snapshot_says_the_same()
     ensures { SnapshotSaysTheSame }
 {
@@ -75,7 +82,8 @@ pub fn a_snapshot_keeps_all()
     ends_are_right();
 }
 
-/// One more record of a call keeps that.
+/// One more record of a call keeps that. A call writes the record (`IsLive`), and its message, if it is one, didn't
+/// come yet (`IsNewIn`).
 pub fn one_more_record_keeps_all()
     ensures { KeptByOneMore }
 {}
@@ -96,7 +104,8 @@ pub fn a_snapshot_is_proper()
     ends_are_right();
 }
 
-/// What a snapshot writes of messages that are settled or consumed, and of acknowledged ones, are message numbers.
+/// What a snapshot writes of messages that are settled or consumed, and of acknowledged ones, are message numbers. They
+/// stand as canonical ranges.
 pub fn a_snapshot_writes_sets()
     ensures { SnapshotWritesSets }
 {

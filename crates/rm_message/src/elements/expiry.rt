@@ -75,6 +75,7 @@ fn end_from(date: Date, now: u64, lapse: Lapse) -> Option<u64>
 /// When a duration ends that begins now; both moments are milliseconds since 1970 UTC. The months are added to the
 /// date, as `jiff` adds them, and then the milliseconds. It is None where the duration is zero, where the calendar ends
 /// before, and where the sum is later than any moment that a clock tells. It takes no memory.
+/// - None: exactly where the lapse is zero, the date is refused, or the sum is above 200000000000000 (`end`, `ok`).
 pub fn deadline(now: u64, lapse: Lapse) -> Result<Option<u64>, Memory>
     requires { now ≤ NOW_MAX }
     ensures end { IfOk result (IsDeadline now lapse) }

@@ -163,6 +163,8 @@ fn header_from(
 
 /// The header block that an element is, and None where its name is of no other. Its children may stand in any order,
 /// and all others are passed over.
+/// - Malformed: exactly where the name is one of these and the content is refused, with the name.
+/// - Rollover: exactly where all else is well formed and the number is above 9223372036854775807, with the identifier.
 pub fn read_header(alloc: Global, element: &Element) -> Result<Option<Header>, ElementError>
     ensures { Answers result (header_of (element_view element.now)) }
 {
@@ -256,6 +258,7 @@ fn body_from(
 
 /// The body element that an element is, and None where its name is of no other. Its children may stand in any order,
 /// and all others are passed over.
+/// - Malformed: exactly where the name is one of these and the content is refused, with the name.
 pub fn read_lifecycle(alloc: Global, element: &Element) -> Result<Option<Lifecycle>, ElementError>
     ensures { Answers result (lifecycle_of (element_view element.now)) }
 {

@@ -16,7 +16,8 @@ use std::alloc::Global;
 use std::cmp::Ordering;
 
 /// The unions of an alternative of either policy where these are compatible, which they are where they are equal. Of
-/// lists that are no alternatives nothing is said.
+/// lists that are no alternatives nothing is said. It is the rising list of exactly these unions. TooManyAlternatives
+/// comes exactly where there are more than 256.
 pub fn intersect(
     alloc: Global,
     one: &Alternatives,

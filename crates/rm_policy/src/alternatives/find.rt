@@ -9,7 +9,7 @@ use crate::alternatives::read::{read_pair, read_policy};
 use crate::alternatives::term::Alternatives;
 use std::alloc::Global;
 
-/// The normal form of a policy.
+/// The normal form of a policy. Each refusal comes exactly with the first cause that holds of the bytes.
 pub fn find_normal(alloc: Global, bytes: &[u8]) -> Result<Alternatives, WspError>
     ensures { FindsNormal bytes.now result }
 {
@@ -18,7 +18,9 @@ pub fn find_normal(alloc: Global, bytes: &[u8]) -> Result<Alternatives, WspError
     Ok(lists)
 }
 
-/// What a pair of policies has in common. The first is brought to its normal form first.
+/// What a pair of policies has in common. The first is brought to its normal form first. Each refusal comes exactly
+/// with the first cause that holds: those of the first policy, those of the second, and then those of what they have in
+/// common.
 pub fn find_common(alloc: Global, bytes: &[u8]) -> Result<Alternatives, WspError>
     ensures { FindsCommon bytes.now result }
 {

@@ -20,7 +20,8 @@ pub fn normal_forms_tell()
         → list ≡ other }
 {}
 
-/// The texts of two normal forms are one exactly where both policies admit the same sets.
+/// The texts of two normal forms are one exactly where both policies admit the same sets. No local name may have a
+/// brace, as no NCName has.
 pub fn normal_texts_tell()
     ensures { (p q : ATree) (list other : List (List ATerm)) → IsNormal p list → IsNormal q other → AreNamed list
         → AreNamed other → (normal_text list ≡ normal_text other) ↔ AdmitSame p q }

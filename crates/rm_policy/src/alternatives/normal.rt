@@ -24,7 +24,9 @@ use std::cmp::Ordering;
 /// How many terms a policy may have.
 const TERMS: usize = 64;
 
-/// The alternatives of a policy: the rising list of exactly the sets that it admits.
+/// The alternatives of a policy: the rising list of exactly the sets that it admits. TooManyTerms comes exactly where
+/// the policy has more than 64 different terms, with how many; TooManyAlternatives exactly where it hasn't and some
+/// operator of the tree, over some of its first policies, has more than 256 alternatives.
 pub fn normalise(alloc: Global, policy: &Policy) -> Result<Alternatives, WspError>
     ensures { Normalises (policy_view policy.now) result }
 {

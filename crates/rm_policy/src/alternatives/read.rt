@@ -30,7 +30,9 @@ use std::alloc::Global;
 /// How many elements a document may have.
 const ELEMENTS: u64 = 4096;
 
-/// The policy that a document is.
+/// The policy that a document is. TooLong, NotUtf8 and NotProfile (in Envelope) come exactly with the first cause that
+/// the bytes are no document; Malformed, SecurityUnsupported and TooLarge exactly where the tree is read so, the first
+/// that holds.
 pub fn read_policy(alloc: Global, bytes: &[u8]) -> Result<Policy, WspError>
     ensures { Reads policy_of policy_view bytes.now result }
 {
@@ -38,7 +40,7 @@ pub fn read_policy(alloc: Global, bytes: &[u8]) -> Result<Policy, WspError>
     policy_at(alloc, &root)
 }
 
-/// The two policies of a document that is a pair.
+/// The two policies of a document that is a pair. The refusals are those of `read_policy`, by the tree of the pair.
 pub fn read_pair(alloc: Global, bytes: &[u8]) -> Result<(Policy, Policy), WspError>
     ensures { Reads pair_of pair_view bytes.now result }
 {

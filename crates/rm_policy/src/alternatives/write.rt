@@ -74,6 +74,9 @@ fn push_byte(out: &mut Blob, byte: u8) -> Result<(), Memory>
 }
 
 /// Writes the text of pieces to an output, and takes no memory. After an `Err` some first bytes were written.
+/// - Failed: only where the output's count of faults rose; some first bytes of the text were written (`failed`, `err`).
+/// - Memory: only of an output whose calls may want memory; some first bytes of the text were written (`memory`,
+///   `err`).
 pub fn write_pieces<K: Sink>(out: &mut K, pieces: &[Piece<'_>]) -> Result<(), SinkError>
     ensures ok { OnOk result (Appends (K.told out.old).held (K.told out.new).held (pieces_text pieces.now)) }
     ensures err { OnErr result (AppendsFront (K.told out.old).held (K.told out.new).held (pieces_text pieces.now)) }

@@ -9,7 +9,9 @@ use rm_protocol::laws::{
 };
 use rm_sides::ranges::ends_are_right;
 
-/// What one node of a relay says is a stranger's message to each other node beside a neighbour that didn't say it.
+/// What one node of a relay says is a stranger's message to each other node beside a neighbour that didn't say it. It
+/// goes by what is known of the nodes: their numbers and addresses, whom each has sequences with, and who issued their
+/// identifiers.
 pub fn what_one_says_is_strange_to_the_others()
     ensures { IsStrangeToTheOthers }
 {
@@ -18,6 +20,7 @@ pub fn what_one_says_is_strange_to_the_others()
 
 /// Whatever is sent, forwarded, trimmed, lost, repeated and reordered, and whichever node crashes at whichever device
 /// call: what node 2 forwarded is a prefix of what it received, and what node 3 has is one of what node 1 accepted.
+/// Node 2 consumed no more than it accepted, so the item that is to be forwarded is there once it came.
 pub fn every_relay_keeps_its_word()
     ensures { EachRelayKeepsItsWord }
 {

@@ -17,7 +17,10 @@ use rm_node::laws::the_reply_comes_first;
 use rm_wire::read_laws::laws::{a_refusal_may_be_answered, what_is_read_may_be_written};
 
 impl Actor {
-    /// Does what is asked, at the node's clock. A tick sets the clock of a node that isn't down.
+    /// Does what is asked, at the node's clock. A tick sets the clock of a node that isn't down. The call is the step
+    /// of the protocol: what stands after it, how it comes out, and which packets leave the node, the message that was
+    /// fetched, back on the connection, and then what is said. The disk's count of faults rises where the call comes
+    /// out as a fault of the disk, and stays where it doesn't.
     pub fn ask<D: CrashDisk>(&mut self, disk: &mut D, call: Call<'_>) -> Result<Came, Memory>
         requires there { (x : Node) × Stands x (D.told disk.old) self.old }
         requires may { MayBeAsked call }

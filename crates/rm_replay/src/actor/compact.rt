@@ -11,7 +11,9 @@ use rm_disk::CrashDisk;
 use rm_script::report::Outcome;
 
 impl Actor {
-    /// Writes the journal of the node anew, so that it has what its records say in short. Nothing leaves the node.
+    /// Writes the journal of the node anew, so that it has what its records say in short. Nothing leaves the node. It
+    /// is written as the protocol's node writes its list, also where the disk failed and where there was no room. After
+    /// want of memory nothing has changed.
     pub fn compact<D: CrashDisk>(&mut self, disk: &mut D) -> Result<Outcome, Memory>
         requires { (x : Node) × Stands x (D.told disk.old) self.old }
         ensures { IsRewrite (D.told disk.old) (D.told disk.new) self.old self.new result }

@@ -61,6 +61,10 @@ impl Actor {
 
     /// The disk crashes, and keeps by this choice what was not synced; the node is mounted again. Where memory was
     /// wanting, the disk may have crashed, and the node isn't there any more.
+    /// - `ok`: the node is mounted with what the call that failed was writing or without it, no message waits, and the
+    ///   disk has one crash more, whose bytes stand for the node's entries where its list begins then.
+    /// - `err`, `more`: each image still stands for entries that one more crash leaves, and the disk has one crash more
+    ///   at most.
     pub fn crash<D: CrashDisk>(&mut self, disk: &mut D, choice: u8) -> Result<(), Memory>
         requires there { (x : Value) × Stands x (D.told disk.old) self.old }
         requires choice { choice ≤ 3 }

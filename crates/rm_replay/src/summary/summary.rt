@@ -15,7 +15,8 @@ use rm_script::report::{Place, push_consumed, push_in, push_item, push_out};
 use rm_sides::destination::Incoming;
 use rm_sides::source::Outgoing;
 
-/// Appends what the node with a number knows of each of its sequences, at a moment.
+/// Appends what the node with a number knows of each of its sequences, at a moment. It prints of each sequence, of its
+/// cursor, and of each payload of an inbox that isn't gone what the records say.
 pub fn push_node(out: &mut Blob, node: u64, tables: &Tables, now: u64) -> Result<(), Memory>
     ensures { OnOk result (out.new ≡ out.old ++ node_text node tables.now.records now) }
 {

@@ -91,7 +91,9 @@ fn push_header(out: &mut Blob, message: &Message) -> Result<(), Memory>
     push_pending(out, message.pending)
 }
 
-/// The lines of a message: what it is, its addressing properties, its other header blocks, and what its body has.
+/// The lines of a message: what it is, its addressing properties, its other header blocks, and what its body has. In
+/// this order: what it is; To, Action, MessageID, what it relates to; number, acknowledgements, requests,
+/// MessagePending; and of its body the payload with its bindings, the identifier and last number, or the fault's code.
 pub fn message_lines(alloc: Global, message: &Message) -> Result<Blob, Memory>
     ensures { IfOk result (λ text. text ≡ lines_of message.now) }
 {

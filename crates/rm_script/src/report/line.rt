@@ -53,7 +53,8 @@ pub struct Line {
     pub packets: u64,
 }
 
-/// Appends lines, one after another.
+/// Appends lines, one after another. A line has its number, the outcome with its name, how many entries each node has,
+/// and how many packets there are.
 pub fn push_lines(out: &mut Blob, lines: &[Line]) -> Result<(), Memory>
     ensures { OnOk result (out.new ≡ out.old ++ lines_text lines.now) }
 {

@@ -17,7 +17,9 @@ use crate::soak::cut::{Lines, cut};
 use rm_base::{Blob, Memory, push_decimal};
 use std::alloc::Global;
 
-/// The summary of the report of the script of a number.
+/// The summary of the report of the script of a number. It says how many lines of the report begin with a digit, of how
+/// many of these the second word is `ok` and of how many not, and then has the lines that begin with `out`, `in` and
+/// `down`.
 pub fn summary(alloc: Global, number: u64, report: &[u8]) -> Result<Blob, Memory>
     ensures { IfOk result (λ summary. summary ≡ summary_of number report.now) }
 {

@@ -9,6 +9,8 @@ ghost use Rattle.rm_script.specs.Soak.Summary.{is_answer, is_ok_answer, is_other
 use crate::laws::lines_read_back;
 
 /// What a number generates is a script, and no longer than a script may be.
+/// - `script`: the generator gives PCG's words of 32 bits from the number on stream 1, and for each of 3000 words the
+///   lines of its case.
 pub fn a_soak_is_a_script()
     ensures script { (n : ℕ) → (events : List Said) × IsScript (lines_of (soak_script n)) events }
     ensures short { (n : ℕ) → length (soak_script n) ≤ limits.script_bytes }

@@ -17,7 +17,8 @@ use crate::a_fault_keeps_the_rules;
 use soap_envelope::laws::payload_stands;
 use soap_writer::stripped::laws::{elements_may_be_written, names_may_be_written};
 
-/// A message that bytes spell keeps the rules of those that are written, but for its payload.
+/// A message that bytes spell keeps the rules of those that are written, but for its payload. The rules are of headers,
+/// acknowledgements, requests, names, a body element, a fault, and that action and headers are those of the body.
 pub fn what_is_read_may_be_written()
     ensures { (soap bytes : List ℕ) (m : Value) → Spells soap bytes m → WasRead m }
 {
@@ -25,7 +26,8 @@ pub fn what_is_read_may_be_written()
     names_may_be_written();
 }
 
-/// Its payload is content that stood in the Body of its envelope.
+/// Its payload is content that stood in the Body of its envelope. It has the parts of the body where what is bound
+/// around it is bound so; the bindings may be declared, and two elements more may stand around it.
 pub fn what_is_read_stands()
     ensures { (soap bytes : List ℕ) (m : Value) (spells : Spells soap bytes m) (p : Held) → m.body ≡ body.Payload p
         → Stands p.bytes p.scope spells.envelope.body }

@@ -75,7 +75,9 @@ pub fn bindings_have_a_scope()
     ensures { (bindings : List Bound) → (scope : List Bound) × IsScope bindings scope }
 {}
 
-/// The text of a message in SOAP 1.1 spells it there, but that a payload's scope is that of its frame.
+/// The text of a message in SOAP 1.1 spells it there, but that a payload's scope is that of its frame. The message may
+/// be written, has no names that were not understood, and its fault, if it has one, is such as SOAP 1.1 tells apart. A
+/// payload without a number doesn't begin with a Fault of SOAP 1.1.
 pub fn a_lowered_message_is_read()
     ensures { (m : Value) → MayBeLowered m → length (message11_text m) ≤ envelope_bytes
         → Spells11 (message11_text m) (lowered m) }

@@ -146,6 +146,8 @@ fn lift_payload(alloc: Global, message: &Message, payload: &Payload) -> Result<B
 }
 
 /// What a message of SOAP 1.1 is in SOAP 1.2. A payload keeps its bytes: its Body declares what was bound around them.
+/// The header blocks stay. The prefix of the Body around a payload is `w` with the least number that is free there; the
+/// Body declares that prefix and each binding of the scope.
 pub fn lift(alloc: Global, message: &Message) -> Result<Blob, Memory>
     ensures { IfOk result (IsLifted message.now) }
 {
