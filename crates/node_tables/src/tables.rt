@@ -45,7 +45,9 @@ use std::marker::Model;
 use std::mem;
 use wsa_headers::Epr;
 
-/// The records of a node, and what they say.
+/// The records of a node, and what they say. Texts of rare records, as addresses and MessageIDs, stay in their records,
+/// each once. What the node issued is compared and not kept: an identifier that comes is read to the number that it was
+/// issued for.
 #[derive(Debug, Drop)]
 pub struct Tables {
     alloc: Global,

@@ -42,7 +42,8 @@ impl From<Failed> for ReadError {
 // How many bytes one read asks for at most.
 const PIECE: usize = 65536;
 
-/// Reads a source to its end, where it has at most `limit` bytes. At most `limit + 1` bytes are taken from it.
+/// Reads a source to its end, where it has at most `limit` bytes. At most `limit + 1` bytes are taken from it. It asks
+/// for at most 65536 bytes at a time.
 /// - TooLong: of a source that tells what it has left, only where that is more than the limit, and of more no Ok comes
 ///   (`too_long`, `longer`, `one_more`, `whole`, `within`).
 /// - Failed: only where the source's count of faults rose; no more than the limit and one byte was taken (`failed`,

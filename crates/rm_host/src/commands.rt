@@ -210,7 +210,8 @@ fn items_text(alloc: Global, seq: u32, incoming: &Incoming) -> Result<Blob, Memo
     Ok(text)
 }
 
-/// The journal is written anew, and has what the node's records say in short.
+/// The journal is written anew, and has what the node's records say in short. Where memory is wanting for the line that
+/// is printed, the journal is the fresh one all the same.
 /// - `compacts`: two counts are printed: the entries that the journal had, and the records of their snapshot. A crash
 ///   since the node was found leaves its batches in the old bank or those of the snapshot in the new one. It refuses
 ///   with StoreFull, and the disk has what was found then; after want of memory the disk is as it reads, or was written

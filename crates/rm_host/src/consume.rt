@@ -24,7 +24,8 @@ use rm_sides::destination::Incoming;
 use std::alloc::Global;
 
 /// Prints the items of an inbox past the cursor up to one, and records then that they were consumed. Where it stops
-/// between the two, the items are printed again by the next one: each comes to the application at least once.
+/// between the two, the items are printed again by the next one: each comes to the application at least once. All items
+/// are one text, which is made before any is written.
 /// - `consumes`: where a cursor is printed, all items past the cursor of the node that was found, up to the one that
 ///   was asked for, had been written, and then the record was. Where it ends before that, nothing was recorded, or the
 ///   items had all been printed.

@@ -36,7 +36,9 @@ use std::mem;
 /// A reader of an envelope, which is fed its bytes in pieces. It keeps them up to the end of their root, with the tree
 /// that it makes of them meanwhile, and then the envelope instead, where they are one; what follows that is only looked
 /// through. Where no envelope begins with them, it keeps at most three bytes between two pieces. Where memory was
-/// wanting once, all later calls say so.
+/// wanting once, all later calls say so. What stands behind a root is read by a second reader of documents, which was
+/// fed `<a/>`: behind the ends of two roots the machine does the same. Where a piece ends within a comment there, or a
+/// rule of namespaces is broken, the bytes are read once more.
 #[derive(Drop)]
 pub struct EnvelopeReader {
     alloc: Global,

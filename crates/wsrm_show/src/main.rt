@@ -11,6 +11,7 @@ use rm_script::report::exits;
 use std::env;
 use std::process::ExitCode;
 
+/// It reads without the lock: what is no journal is read again where the file grew meanwhile.
 fn main(rt: HostRuntime) -> ExitCode {
     let mut out = StdSink::new(rt.stdout());
     if has_words(&rt) {

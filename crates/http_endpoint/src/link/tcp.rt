@@ -111,7 +111,7 @@ impl<C: Clock + Drop> Connection for TcpConn<C> {
     ghost one = { λ c. refl };
 }
 
-/// The network of the system.
+/// The network of the system. It listens on every address of the machine, IPv6 first.
 #[derive(Drop)]
 pub struct TcpLink<R: Net> {
     net: R,

@@ -20,7 +20,7 @@ struct Place {
     end: usize,
 }
 
-/// A wire in memory, which keeps the bytes of all its packets in one row.
+/// A wire in memory, which keeps the bytes of all its packets in one row. It gives no memory back.
 #[derive(Debug, Drop)]
 pub struct MemWire {
     bytes: Vec<u8>,

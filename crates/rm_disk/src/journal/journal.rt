@@ -25,7 +25,8 @@ use rm_base::limits::{ENTRY_BYTES, JOURNAL_BYTES};
 use std::alloc::Global;
 use std::marker::Model;
 
-/// The list of entries on a disk. It keeps the place of each, and none of their bytes.
+/// The list of entries on a disk. It keeps the place of each, and none of their bytes. No checksum is kept: the sync
+/// before the gate is what makes the gate safe.
 #[derive(Debug, Drop)]
 pub struct Journal {
     alloc: Global,
@@ -96,7 +97,9 @@ impl Journal {
         })
     }
 
-    /// Finds the journal on a disk. It makes three device calls: it syncs, asks for the length and reads all once.
+    /// Finds the journal on a disk. It makes three device calls: it syncs, asks for the length and reads all once. It
+    /// takes the memory of the disk's length meanwhile. A journal that is longer than its limit is found too: the limit
+    /// is on what is added.
     /// - `fits`: the list for which the disk reads, in its bank, and then each image stands for it there.
     /// - `behind`: the journal ends no earlier than its list begins.
     /// - `seen`, `moments`, `settled`: whatever comes, what is read stays, a crash leaves no more than before, and at
@@ -210,7 +213,8 @@ impl Journal {
     }
 
     /// Adds an entry, in four device calls: it writes the entry behind the closed gate, syncs, opens the gate, syncs.
-    /// After Disk the entry is on the disk or isn't, and the journal is down: mount the disk again.
+    /// After Disk the entry is on the disk or isn't, and the journal is down: mount the disk again. It cuts nothing
+    /// off: what stood behind the closed gate stays behind the new one, where it means nothing.
     /// - `moments`: at every moment from the start each image stands for the old entries, or for these with the new
     ///   one.
     /// - `ok`: after Ok each image stands for the new list.

@@ -36,6 +36,7 @@ pub(crate) struct Stop {
 }
 
 /// The destination's side of one sequence. Room that was made for messages to come counts until it is used or given up.
+/// What is gone is a count of the first messages, and a set on a loose sequence.
 #[derive(Debug, Drop)]
 pub struct Incoming {
     behaviour: Behaviour,

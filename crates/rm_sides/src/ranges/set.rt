@@ -145,7 +145,9 @@ impl RangeSet {
         !has_all(&self.kept, &other.kept)
     }
 
-    /// Adds the numbers of another set, and answers whether one of them is new.
+    /// Adds the numbers of another set, and answers whether one of them is new. It merges in place, in linear time: the
+    /// set's ranges move behind the room that is made, and both lists are read from there while the sum grows from the
+    /// front.
     pub fn unite(&mut self, other: &RangeSet) -> Result<bool, Memory>
         ensures ok { OnOk result (self.new.ranges ≡ united self.old.ranges other.now.ranges) }
         ensures adds { OnOk result (AddsExactly self.old.ranges self.new.ranges (in_ranges other.now.ranges)) }

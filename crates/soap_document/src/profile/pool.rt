@@ -14,7 +14,8 @@ const SLOTS: usize = 64;
 const FEW: u8 = 8;
 
 /// Names that were met. A name has one slot, and each slot keeps the name that came last. It is known in the era in
-/// which it was met, throughout which the bindings are the same.
+/// which it was met, throughout which the bindings are the same. Where the bindings change the era goes on and no slot
+/// is emptied, which took half of the time where each element declares a namespace.
 #[derive(Drop)]
 pub(crate) struct Pool {
     // None at first.

@@ -19,7 +19,7 @@ use std::marker::Model;
 pub const MOST_EMITTED: u32 = 64;
 
 /// The keys that wait to be emitted, at most `MOST_KEYS`, each found in about twelve steps. After `new` no call takes
-/// memory.
+/// memory. The keys stand in one row by sequence and number, each with its slot in the timers below.
 #[derive(Debug, Drop)]
 pub struct KeyTimers {
     timers: Timers,

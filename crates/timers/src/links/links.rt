@@ -32,7 +32,9 @@ pub struct Item {
     pub due: u64,
 }
 
-/// Lists of items in one table of slots. After `with_slots` no call takes memory.
+/// Lists of items in one table of slots. After `with_slots` no call takes memory. The lists are circular, in one table:
+/// the slots, and behind them a node for each list, which names its first and its last. The free slots are the last
+/// list. So no case is needed for an empty list, and one move serves all calls.
 #[derive(Debug, Drop)]
 pub struct Links {
     nodes: Vec<Node>,

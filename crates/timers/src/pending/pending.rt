@@ -19,7 +19,9 @@ use rm_base::{Memory, Uri};
 use std::alloc::Global;
 use std::marker::Model;
 
-/// Packets that wait for addresses until they are polled: at most 64 for one, and for at most 256.
+/// Packets that wait for addresses until they are polled: at most 64 for one, and for at most 256. The lists and their
+/// slots are made when they are first needed, so that a put takes memory for the copy of an address alone. An address
+/// that was polled to its end leaves its place to another one.
 #[derive(Drop)]
 pub struct Pending<T> {
     alloc: Global,

@@ -34,8 +34,9 @@ pub struct Key {
     pub number: u64,
 }
 
-/// The keys that wait to be emitted, at most `MOST_KEYS`. After `new` no call takes memory.
-/// Moments are milliseconds since 1970 UTC.
+/// The keys that wait to be emitted, at most `MOST_KEYS`. After `new` no call takes memory. Moments are milliseconds
+/// since 1970 UTC. The order of the last move is kept within a class; no memory has that between classes, and nothing
+/// that is due reads it. Due moments go by the timers' time, so along a class they never fall.
 #[derive(Debug, Drop)]
 pub struct Timers {
     links: Links,
