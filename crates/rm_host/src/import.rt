@@ -17,8 +17,8 @@ use std::alloc::Global;
 
 /// Reads a journal of the layout before, to the end of the input, and makes an empty disk that of its node. After a
 /// fault of the disk and want of memory an empty disk holds anything; where the bytes make no node it stays empty. The
-/// input is read before the disk is looked at, so 4 and 8 leave the disk alone. Bytes and copies of the journal stand
-/// in memory, four at most.
+/// input is read before the disk is looked at, so 4 and 8 leave the disk alone. It stands in memory beside the journal
+/// that is made of it, of which there are four copies at most.
 /// - `imports`: where a count is printed, the input was the journal of a node by the layout before, of so many batches;
 ///   a disk that tells was empty, and has the batches now, in the first bank and for good. It refuses where the disk
 ///   had bytes or the journal would be longer than 268435456, and ends with 11 where the input is no node's journal.
