@@ -1,4 +1,4 @@
-//! Tests of rm_base: each call on its happy path, the tables of texts and limits, and calls that fail in mid-stream.
+//! Tests of `rm_base`: each call on its happy path, the tables of texts and limits, and calls that fail in mid-stream.
 //! What a test does stands in a helper that answers a plain value, since a test with many steps is slow to prove.
 ghost use Rattle.std.specs.Prelude.{◌≤◌, IfOk};
 

@@ -1,5 +1,5 @@
-//! Tests of rm_destination. What a test does stands in a helper that answers a plain value, since a test with many
-//! steps is slow to prove.
+//! Tests of `rm_sides::destination`. What a test does stands in a helper that answers a plain value, since a test with
+//! many steps is slow to prove.
 use rm_base::{Behaviour, Blob, Cause, Items, MAX_NUMBER, Memory, Payload};
 use rm_sides::destination::{DestError, InPhase, Incoming, Took};
 use rm_sides::ranges::RangeSet;

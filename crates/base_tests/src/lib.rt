@@ -1,5 +1,5 @@
-//! The tests of the crates that a node stands on, a module a crate. They stand apart, since a crate with tests is
-//! proved a second time with them.
+//! Tests of `rm_base`, `rm_sides`, `rm_disk` and `timers`, in a module for each module that is tested.
+//! Tests stand in crates of their own, since a crate with tests is proved a second time with them.
 #![tactic(auto)]
 
 #[cfg(test)]

@@ -1,4 +1,4 @@
-//! Tests of ack_ranges.
+//! Tests of `rm_sides::ranges`.
 use rm_base::{MAX_NUMBER, Memory};
 use rm_sides::ranges::RangeSet;
 use std::alloc::Global;

@@ -1,5 +1,5 @@
-//! Tests of rm_source. What a test does stands in a helper that answers a plain value, since a test with many steps is
-//! slow to prove.
+//! Tests of `rm_sides::source`. What a test does stands in a helper that answers a plain value, since a test with many
+//! steps is slow to prove.
 use rm_base::{Blob, MAX_NUMBER, Memory};
 use rm_sides::ranges::{Range, RangeSet};
 use rm_sides::source::{OutPhase, Outgoing, SourceError};

@@ -1,4 +1,5 @@
-//! edge_tests: TO BE WRITTEN.
+//! Tests of `http_endpoint`, of `rm_base::wire`, of `rm_disk::file` and of `rm_script`.
+//! Tests stand in crates of their own, since a crate with tests is proved a second time with them.
 #![tactic(auto)]
 
 #[cfg(test)]

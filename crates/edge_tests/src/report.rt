@@ -1,4 +1,4 @@
-//! Tests of rm_report.
+//! Tests of `rm_script::report`.
 use rm_base::{Behaviour, Blob};
 use rm_message::FaultKind;
 use rm_script::report::{

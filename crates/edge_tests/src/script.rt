@@ -1,4 +1,4 @@
-//! Tests of rm_script.
+//! Tests of `rm_script`.
 use rm_base::{Behaviour, Blob, push_decimal, push_hex};
 use rm_script::{Event, Side, read_script};
 use std::alloc::Global;

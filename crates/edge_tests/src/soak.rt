@@ -1,5 +1,6 @@
-//! Tests of rm_soak. What is generated is told by PCG's minimal generator in C (`pcg32_srandom_r` with a number and 1)
-//! and the table of lines, worked out apart from this code: first lines, how many, how many bytes, and a checksum.
+//! Tests of `rm_script::soak`. What is generated is told by PCG's minimal generator in C (`pcg32_srandom_r` with a
+//! number and 1) and the table of lines, worked out apart from this code: first lines, how many, how many bytes, and a
+//! checksum.
 use rm_script::soak::{script, summary};
 use std::alloc::Global;
 use std::test::Fail;

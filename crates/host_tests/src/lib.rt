@@ -1,6 +1,7 @@
-//! Tests of the commands of one node over a disk, a link and a clock in memory: connections that are cut, and those
-//! that do not come; what is released by the words of `serve`; `serve11`; and what `import` refuses. They stand apart,
-//! since a crate with tests is proved a second time with them.
+//! Tests of `rm_serve` and of the commands of `rm_host`, over a disk, a link and a clock in memory.
+//! - `serves`, `posts`, `peer` and `refusals`: what `rm_serve` writes, in SOAP 1.1 and where a request is bad.
+//! - the others: `serve`, `serve11` and `import` on a host in memory (`machine`, `watched`).
+//! Tests stand in crates of their own, since a crate with tests is proved a second time with them.
 #![tactic(auto)]
 
 #[cfg(test)]

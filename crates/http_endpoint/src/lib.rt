@@ -1,7 +1,7 @@
-//! HTTP/1.1 messages, one in each direction of a connection: requests and responses, read from a source a piece at a
-//! time and written to a sink. It stands on the kit's grammars of heads, fields and addresses, and on the sources and
-//! sinks of `rm_base`. The layer above may use what each reader says of the whole list of bytes that a source has left,
-//! however they arrive, of each writer the text that it writes, and the laws that bytes have one answer.
+//! HTTP/1.1, one message in each direction of a connection, and what brings connections.
+//! `read_request` and `read_response` read a message a piece at a time, `write_request` and `write_response` write one.
+//! Contracts speak of all the bytes that a source has left, however they arrive; by the laws these have one answer.
+//! - `link`: the trait `Link`, with `TcpLink` and `MemLink`; `post` takes one packet to its address.
 #![tactic(auto)]
 
 pub mod body;

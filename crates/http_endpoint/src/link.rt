@@ -1,6 +1,5 @@
 //! What brings connections to and from other nodes: the trait `Link`, a link over connections in memory, and one over
-//! TCP; and `post`, which takes one packet to where its address says and reads the response. It stands on
-//! `http_endpoint` and `rm_base`. The layer above may use of a link what it tells, and of a packet what became of it.
+//! TCP; and `post`, which takes one packet to where its address says and reads the response.
 
 mod fault;
 pub mod link;

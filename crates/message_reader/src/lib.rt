@@ -1,8 +1,8 @@
-//! Whole messages from bytes: an envelope's header blocks and its body, as the values of one message, or the first
-//! reason that there is none, with where its fault goes. It stands on the types of messages, `rm_message`, on the
-//! readers of addressing headers and of the elements of WS-ReliableMessaging, and on envelopes. The layers above may
-//! use the contracts of `decode` and `decode_read`, by `specs/Message`, `specs/Reading` and `specs/Refusals`, and the
-//! laws.
+//! Whole messages from bytes, of SOAP 1.2 or 1.1.
+//! `decode` answers the `Message` that the bytes spell in SOAP 1.2. Where they spell none it answers a `Refusal`: the
+//! first reason, and where the fault goes. `decode_in` does so for the namespace of either version of SOAP.
+//! `decode_read` does so of what a reader of envelopes answered, such as one that is fed pieces.
+//! `specs/Message` and `specs/Reading` say what bytes spell, `specs/Refusals` why they spell nothing.
 #![tactic(auto)]
 
 mod blocks;

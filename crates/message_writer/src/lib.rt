@@ -1,6 +1,7 @@
-//! Whole messages to bytes, and the faults that refusals are answered with. It stands on the types of messages,
-//! `rm_message`, on header blocks and body elements, `rm_message::elements`, on addressing headers, `wsa_headers`, and on the
-//! frame of an envelope, `soap_envelope::frame`. The layers above may use the contracts and the laws, by `specs/`.
+//! Whole messages to bytes, of SOAP 1.2 or 1.1, and the faults that answer refusals.
+//! `encode` writes a `Message` in SOAP 1.2, `encode11` in SOAP 1.1.
+//! `fault_message` makes the fault that answers a refusal; `table` has the code and the subcodes of each kind of fault.
+//! By the laws the text of a message is an envelope of exactly its blocks and its payload.
 #![tactic(auto)]
 
 pub mod fault;

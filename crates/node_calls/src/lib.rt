@@ -1,6 +1,8 @@
-//! What a node does of its own: create, send, close, end, consume, tick, and what it asks its peers for, each as the
-//! answer that it comes to. It stands on the tables with a batch ahead, `tables_ahead`, on what a node says as values,
-//! `node_messages`, and on the definitions of the protocol, `rm_protocol`.
+//! What a node does when it is asked, and not by a message: `calls` has each call's `Answer`, from the tables.
+//! `create`, `send`, `close`, `end` and `consume` add records.
+//! `tick` ends sequences that expired, and says again what is due. `ask_ack`, `nack_missing` and `poll` ask the peer,
+//! and add no record.
+//! The other modules have the work of one call each; `keys` makes a due key the message that it stands for.
 #![tactic(auto)]
 
 mod acks;

@@ -1,5 +1,5 @@
-//! How many bytes a batch of records takes, without writing it, and that one which fits into a journal's entry may be
-//! written and is read back. It stands on the format of batches, `record_batch`.
+//! How many bytes a batch of records takes, without writing it. By the laws a batch that fits into a journal's entry
+//! may be written and is read back.
 
 pub mod laws;
 pub mod parts;

@@ -1,4 +1,4 @@
-//! What a snapshot is of a node's records. A law alone, above the records that a node accepts, `node_laws`.
+//! What a snapshot is of a node's records: laws alone.
 
 pub mod laws;
 

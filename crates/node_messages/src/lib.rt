@@ -1,6 +1,7 @@
-//! What a node says, as values: messages, the endpoints that they go to, and the acknowledgements that they carry. It
-//! stands on the definitions of the protocol, `rm_protocol`, and on messages, `rm_message`. The layers above may use
-//! the contracts and the definitions of `specs/`.
+//! What a node says, as values: each message that `rm_protocol` names, built.
+//! `data_message` carries a payload, `ack_message` and `ask_message` are for acknowledgements, `create_request` and its
+//! like are requests, `grant_response` and its like are responses.
+//! `place_of` tells where an address goes, `fault_endpoint` and `reply_endpoint` where an answer goes.
 #![tactic(auto)]
 
 pub mod acks;

@@ -1,6 +1,7 @@
-//! The records of one node on a disk: a journal of batches, and the tables of their records. A crash at any device call
-//! leaves the batches as they were or with the one that was being written. It stands on the journal, `rm_disk::journal`, on
-//! the tables, `node_tables`, and on what the records of a node are, `node_laws`.
+//! The records of one node on a disk: a journal of batches, and the tables of their records.
+//! `Store` has both: `make` begins a node, `mount` reads one back, `append` writes the records of a call as one batch.
+//! A crash at any device call leaves the batches as they were, or with the one being written.
+//! `compact` writes the journal anew from a snapshot, and `import` takes one of the layout before.
 #![tactic(auto)]
 
 mod commit;

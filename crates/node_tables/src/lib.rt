@@ -1,5 +1,8 @@
-//! The sequences of a node, as its records tell of them. It stands on one sequence, `row`, and on what a list
-//! of records says, `record_batch::sequences`.
+//! The tables of a node in memory: what its records say of each sequence.
+//! `Tables` is seen as the list of all records so far. `fits` tells whether a record may come next, `apply` and
+//! `apply_all` apply records, for which `reserve` made room, and readers such as `outgoing`, `incoming` and
+//! `find_incoming` look sequences up. `snapshot` says the records in short.
+//! - `row`: one sequence in the tables, `Row`: a side that sends or one that receives.
 #![tactic(auto)]
 
 mod ahead;

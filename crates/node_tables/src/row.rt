@@ -1,6 +1,5 @@
 //! One sequence of a node, as its tables keep it: a side that sends or one that receives, with the ticket of the last
-//! request for it. It stands on both sides, `rm_sides::source` and `rm_sides::destination`, and on what records say of a sequence,
-//! `record_batch::sequences`.
+//! request for it.
 
 pub mod laws;
 pub mod row;

@@ -7,7 +7,8 @@ ghost use Rattle.record_batch.specs.Fact.{Fact, Accepted, Acked, Received, fact_
 ghost use Rattle.rm_sides.specs.Source.Outgoing.{Sequence as OutSequence};
 ghost use Rattle.rm_sides.specs.Destination.Incoming.{Sequence as InSequence};
 ghost use Rattle.node_tables.specs.Row.Row.{Seen, draws_next};
-ghost use Rattle.record_batch.specs.Sequences.Find.{accepted_by, find_creating, find_grant, find_incoming, find_outgoing};
+ghost use Rattle.record_batch.specs.Sequences.Find.{accepted_by, find_creating, find_grant, find_incoming};
+ghost use Rattle.record_batch.specs.Sequences.Find.{find_outgoing};
 ghost use Rattle.record_batch.specs.Sequences.Find.{is_creating, is_incoming};
 ghost use Rattle.record_batch.specs.Sequences.Fits.{fits, all_fit, has_places, is_outgoing_side};
 ghost use Rattle.record_batch.specs.Sequences.Idents.{IsIssuedFor};

@@ -1,5 +1,5 @@
-//! The tests of a node: messages in and packets out, what is refused, and what is left where the disk fails. They stand
-//! apart, since a crate with tests is proved a second time with them.
+//! Tests of `rm_node`: messages in and packets out, what is refused, and what is left where the disk fails.
+//! Tests stand in crates of their own, since a crate with tests is proved a second time with them.
 #![tactic(auto)]
 
 #[cfg(test)]

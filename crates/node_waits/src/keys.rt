@@ -1,6 +1,5 @@
 //! The keys that wait at a node, as its tables tell them: what a batch of records ends, what a mount finds, and what a
-//! tick emits. It stands on timers that find their keys, `timers::keys`, and on the tables of a node, `node_tables`; the
-//! layer above may see each call as what `rm_protocol` makes of the list of those that wait.
+//! tick emits. Contracts say each call as what `rm_protocol` makes of the list of those that wait.
 
 mod after;
 pub mod laws;

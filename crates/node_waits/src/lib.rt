@@ -1,7 +1,9 @@
-//! The messages that wait at a node, as a call of the node goes by them: room is made for those that are to wait before
-//! the records of the call are written, and they are put when that is done, which takes no memory; and a message that
-//! waited is made the reply to a MakeConnection before it is taken. It stands on the queues of waiting packets,
-//! `timers::pending`, on what a node says as values, `node_messages`, and on the protocol, `rm_protocol`.
+//! The messages and the keys that wait at a node, as a call of the node goes by them.
+//! `make_room` makes room for the messages that are to wait, before the records of the call are written.
+//! `keep` puts them when that is done, and takes no memory.
+//! `polls` finds the message that a MakeConnection is given, and `take` takes it.
+//! - `keys`: which keys wait. `after_call` goes by the records of a call, `fill` by those that a mount finds, and
+//!   `due_keys` answers which are due.
 #![tactic(auto)]
 
 mod copy;

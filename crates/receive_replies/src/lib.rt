@@ -1,6 +1,6 @@
-//! What a node says to a message, once its records are there: responses and acknowledgements, and the block that a
-//! fault carries. It stands on the tables with a batch ahead, `tables_ahead`, on what a node says as values,
-//! `node_messages`, and on the definitions of the protocol, `rm_protocol`.
+//! What a node says to a message, once its records are there, and why a message is not taken.
+//! `said` answers the responses and the acknowledgements. `fault_block` answers the block that a fault carries.
+//! - `verdict`: `early_verdict` finds the kind of the fault that a message gets, as far as the node's records tell it.
 #![tactic(auto)]
 
 mod acks;

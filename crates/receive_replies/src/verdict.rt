@@ -1,5 +1,4 @@
-//! Why a message is not taken: the kinds of faults that depend on what the node knows, but for want of room. It stands
-//! on the tables with a batch ahead, `tables_ahead`, and on the definitions of the protocol, `rm_protocol`.
+//! Why a message is not taken: the kinds of faults that depend on what the node knows, but for want of room.
 
 mod acks;
 mod body;

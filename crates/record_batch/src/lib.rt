@@ -1,7 +1,9 @@
-//! The records that a node's journal holds, and the bytes of a batch of them. It stands on endpoint references,
-//! `wsa_headers`, on durations, `rm_message::elements`, on sets of message numbers, `rm_sides::ranges`, and on the readers and writers
-//! of elements and values. The layers above may use the contracts of `write_batch` and `read_batch`, and the laws that
-//! what is written is read back and nothing else is, by `specs/`.
+//! The records that a node's journal holds, and what a list of them says.
+//! A `Record` is one fact that the node has written down for good. `write_batch` writes a batch of records as bytes,
+//! and `read_batch` reads it; by the laws what is written is read back and nothing else is.
+//! - `sequences`: definitions of what records say of each sequence and which record may come next; `issue` makes the
+//!   identifiers that a node hands out.
+//! - `snapshot`: laws alone: a shorter list says the same of all that is still needed.
 #![tactic(auto)]
 
 pub mod copy;

@@ -1,5 +1,5 @@
 //! What a list of records says of each sequence of a node, which record may come next, and the identifiers that a node
-//! issues. It stands on records, `record_batch`, and on the phases of a source, `rm_sides::source`.
+//! issues. The definitions stand in `specs/Sequences`.
 
 pub mod idents;
 pub mod laws;

@@ -1,7 +1,6 @@
 //! What a list of a node's records says in short: its snapshot, a shorter list by which all that is known of the node
-//! and its sequences is the same, but for payloads that are gone: those that were accepted and are acknowledged, and
-//! those that were received and consumed. It stands on what records say, `sequences`. The layers above may use the
-//! laws of snapshots, in `src/laws.rt`.
+//! and its sequences is the same, but for payloads that are gone. Gone are those that were accepted and are
+//! acknowledged, and those that were received and consumed. It has no code but laws.
 
 pub mod laws;
 

@@ -1,4 +1,4 @@
-//! The tests of the program that no case shows: long inputs, reads, writes and packets that fail.
+//! Tests of the commands that no case shows: long inputs, and reads, writes and packets that fail.
 
 #[cfg(test)]
 mod tests;

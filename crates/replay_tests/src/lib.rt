@@ -1,6 +1,8 @@
-//! The tests of scripts that are played over two durable nodes: what stands on the disks and on the wire. Reports of
-//! scripts are cases of the command `replay`. They stand apart, since a crate with tests is proved a second time with
-//! them.
+//! Tests of scripts that are played over durable nodes: what stands on the disks and on the wire.
+//! - `command_tests`: the commands of `rm_command`, on input and output that fail.
+//! - `relay_tests`: a relay of three nodes, and generated scripts of it.
+//! Reports of scripts are cases of the command `replay`. Tests stand in crates of their own, since a crate with tests
+//! is proved a second time with them.
 #![tactic(auto)]
 
 pub mod command_tests;

@@ -1,4 +1,4 @@
-//! The tests of a relay of three nodes. They stand apart, since a crate with tests is proved a second time with them.
+//! Tests of a relay of three nodes.
 
 #[cfg(test)]
 mod calls;

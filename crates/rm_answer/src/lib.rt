@@ -1,6 +1,6 @@
-//! The answers of a node on HTTP, in each version of SOAP: the status of each, and the fault for a body that is
-//! refused. It stands on the writers of messages, and on `http_endpoint`. The layer above may use the reply that each
-//! outcome has.
+//! What goes back on an HTTP connection, in each version of SOAP: a `Reply`, which is a status and a body.
+//! `reply_to` makes it for a message that a node took, `fault_reply` for a body that is refused, and `refusal_to` for a
+//! request that could not be read.
 #![tactic(auto)]
 
 pub mod reply;

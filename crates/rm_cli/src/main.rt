@@ -1,4 +1,6 @@
-//! The program wsrm: the commands of one node on a file and on TCP, and those that need none.
+//! The program wsrm: the commands of one node on a file and on TCP (`rm_host`), and those that need none
+//! (`rm_command`).
+//! `run` tells by the words which of both does the command.
 #![tactic(auto)]
 
 mod run;

@@ -1,10 +1,10 @@
-//! The commands of wsrm that need no node: `run` does them over any input and output, any two disks and any wire.
-//! `replay` reads a script, plays it over two durable nodes and the wire between them, and prints the report; `soak`
-//! plays a script that a number generates, and prints the summary of its report; `check`
-//! reads an envelope, and prints what its message says; `policy` reads an assertion of reliable messaging, and prints
-//! what it says; `normal` and `intersect` read policies, and print the normal form of one, or what two have in common.
-//! It stands on rm_script and rm_replay, on message_reader and message_lines, on rm_policy and wsp_alternatives; the
-//! program, `rm_cli`, may use `run` and its contract.
+//! The commands that need no node of their own, over any input and output, any two disks and any wire.
+//! `run` does what the words of a command say, and answers an exit status. A module does each command:
+//! - `replay`: plays a script over two nodes, and prints the report; `soak`: plays one that a number generates;
+//! - `check` and `check_text`: print what the message of an envelope says;
+//! - `policy` and `policy_text`: print what an assertion says;
+//! - `alternatives`: `normal` and `intersect` print the normal form of a policy, and what two policies have in common.
+//! `filter` reads the input and writes the output, and `end` has how a command ends.
 #![tactic(auto)]
 
 mod alternatives;

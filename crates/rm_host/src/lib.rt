@@ -1,4 +1,10 @@
-//! The commands of one node over a disk, a link and a clock.
+//! The commands of one node, over a disk, a link and a clock: `Host`.
+//! `run` does what the words say, and answers an exit status. `words` reads the words of a command, `Command`.
+//! - `commands`, `send`, `serve`, `consume`, `import`: the commands; those without a module of their own are in
+//!   `commands`;
+//! - `calls`: what commands do with the node and the link: one call, the packets posted, one connection taken;
+//! - `program`: which function does which command, and what `main` needs beside;
+//! - `end`: how a command ends, as a status and a line.
 #![tactic(auto)]
 
 mod calls;

@@ -8,4 +8,3 @@ pub mod LifecycleBack
 pub mod LifecycleGood
 pub mod NodeLemmas
 pub mod PlainTexts
-pub mod Spans

@@ -1,1 +1,2 @@
 pub mod ElementsLemmas
+pub mod Spans

@@ -1,7 +1,5 @@
 //! The header blocks and body elements of WS-ReliableMessaging 1.2 and WS-MakeConnection 1.1, as values: trees are
-//! read, and values are written. It stands on endpoint references, `wsa_headers`, on ranges of message numbers,
-//! `rm_sides::ranges`, and on the calendar of `jiff`. The layers above may use the contracts of the readers and writers, and
-//! the laws that what is written is read back, by `specs/`.
+//! read, and values are written. By the laws what is written is read back.
 
 mod copies;
 pub mod duration;

@@ -1,9 +1,10 @@
-//! One durable node: what it is asked for and what comes to it become records on its disk and packets that are handed
-//! out, and no crash takes back what it said. A call works out its answer (`node_calls`, `receive_answer`), encodes
-//! what it says, makes room for the messages that are to wait (`node_waits`), and appends the records in one batch
-//! (`node_store`); only then do keys begin and cease to wait (`node_waits::keys`), a message that was fetched ceases to and
-//! others begin to, and the packets are handed out. One call more writes the journal anew, with what the records say in
-//! short. The layers above may use the contracts, which say each call as the step that `rm_protocol` defines.
+//! One durable node, `Node`: a call of it becomes records on its disk and packets that are handed out.
+//! `step` does a `Call`, which is something asked for or bytes that came. `calls` has a function a kind. In order:
+//! - `say` works out the answer, by `receive` for bytes and by `node_calls` for the rest; `packets` encodes it;
+//! - `act` writes it: `after` makes room (`make_ready`), appends the records as one batch (`write_down`), and then lets
+//!   keys and messages begin and cease to wait (`go_on`).
+//! Only then are the packets handed out, so no crash takes back what was said.
+//! `node` has `make` and `mount`, `compact` writes the journal anew, and `kept` is what is not on the disk.
 #![tactic(auto)]
 
 mod act;

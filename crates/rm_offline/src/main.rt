@@ -1,5 +1,5 @@
-//! The commands that need no node, without those of a node: `./wsrm` answers them by this program while wsrm is not
-//! proved and built, since it is read from its sources in half the time.
+//! The program of the commands that need no node. `./wsrm` answers them by this one, from its sources, until wsrm is
+//! proved and built: there is half as much to read.
 #![tactic(auto)]
 
 use rm_base::wire::MemWire;

@@ -1,6 +1,6 @@
 //! Policies of reliable messaging in normal form: which sets of assertions a policy admits, and what two policies have
-//! in common. It stands on the assertions of `rm_policy` and on trees with expanded names, `soap_document::profile`. The layer
-//! above may use the contracts, by `specs/`: what is admitted, in the terms of WS-Policy, and never how it is found.
+//! in common. Contracts say by `specs/Alternatives` what is admitted, in the terms of WS-Policy, and never how it is
+//! found.
 
 mod combine;
 pub mod common;

@@ -1,6 +1,8 @@
-//! Assertions of reliable messaging, as policies carry them: read from a document or an element, written, and judged.
-//! It stands on trees with expanded names, `soap_document::profile`, and on `soap_values`. The layers above may use the
-//! contracts, by `specs/`: what an assertion is read as is a function of its tree.
+//! Assertions of reliable messaging, as policies carry them: read, written and judged.
+//! `read_assertion` reads an `Assertion` from a document, as a function of its tree. `write_assertion` writes it.
+//! `grants` tells whether our nodes keep to it.
+//! - `alternatives`: policies with operators. `find_normal` answers which sets of assertions a policy admits,
+//!   `find_common` what two policies have in common; `write_normal` writes that.
 #![tactic(auto)]
 
 pub mod assertion;

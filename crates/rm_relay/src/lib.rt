@@ -1,7 +1,7 @@
 //! A relay of three durable nodes: what the second one received from the first it forwards to the third, each item
-//! once, though all three may stop at any device call. It stands on one node of a script, `rm_replay::actor`, on scripts and
-//! reports of two nodes, of which it takes the parts that fit, and on wires, `rm_base::wire`. The layer above may use
-//! `relay_run` by the definitions of `specs/`, and `forward` and `trim` over any node.
+//! once, though all three may stop at any device call.
+//! `relay_run` plays a script of three nodes on a `Stage3`. `forward` and `trim` are the relay's own calls.
+//! - `word`: the promise from end to end, by the protocol alone.
 #![tactic(auto)]
 
 pub mod event;

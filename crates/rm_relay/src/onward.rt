@@ -11,7 +11,8 @@ ghost use Rattle.record_batch.specs.Sequences.Sources.{accepted_count};
 ghost use Rattle.rm_node.specs.Called.{HasBatches, Steps};
 ghost use Rattle.rm_node.specs.Ends.{done_end};
 ghost use Rattle.rm_node.specs.declared.call.Call.TheVariants.{Consume as Consumes};
-ghost use Rattle.rm_relay.specs.Word.Ends.{AreEnds, MayForward, acknowledged, first_incoming, first_outgoing, next_item};
+ghost use Rattle.rm_relay.specs.Word.Ends.{AreEnds, MayForward, acknowledged, first_incoming, first_outgoing};
+ghost use Rattle.rm_relay.specs.Word.Ends.{next_item};
 ghost use Rattle.rm_relay.specs.Forwards.{Forwards};
 
 use node_tables::laws::{an_incoming_sequence_is_as_recorded, an_outgoing_sequence_is_as_recorded};

@@ -1,6 +1,5 @@
 //! The promise of a relay of three durable nodes, by the protocol alone: what the second one received from the first it
-//! forwards to the third, though all three may stop at any device call. It stands on two nodes among others,
-//! `rm_protocol`. The layer above plays such worlds over real nodes, and may use the definitions of `specs/`.
+//! forwards to the third, though all three may stop at any device call. Such worlds are played over real nodes above.
 
 pub mod laws;
 pub mod station;

@@ -1,6 +1,6 @@
 //! One node of a script: a durable node with its clock, over a disk that may be armed and crash. Each call is the step
 //! of the protocol's own node, `rm_protocol`: what the code keeps and what is on the disk stand for it, before and
-//! after. It stands on one durable node, `rm_node`, and on how a line of a report tells an outcome, `rm_script::report`.
+//! after.
 
 pub mod actor;
 pub mod ask;

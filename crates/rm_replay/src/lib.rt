@@ -1,6 +1,7 @@
-//! Two durable nodes on two disks, a wire between them, and the scripts that are played over them. It stands on one
-//! node of a script, `actor`, on scripts and reports, `rm_script`, `rm_script::report` and `summary`, and on wires,
-//! `rm_base::wire`. The layer above may use `run_script` by the definitions of `specs/`, and the laws.
+//! Scripts, played over two durable nodes on two disks with a wire between them.
+//! `run_script` plays a list of events on a `Stage`, and answers the report.
+//! - `actor`: one node of a script, `Actor`, with its clock, over a disk that may be armed and crash.
+//! - `summary`: what a node knows at the end of a script, as text.
 #![tactic(auto)]
 
 mod ask;

@@ -1,6 +1,9 @@
-//! Scripts of two nodes: what each line asks of a node or lets befall it, read exactly. It stands on durations,
-//! `rm_message::elements`, and on `rm_base`. The layer above may use `read_script` by the grammar, `specs/Script`, and the laws;
-//! a reader of other scripts the words of a line, and what makes lines a script by what a line says, `specs/Said`.
+//! Scripts of two nodes, and the texts that commands print.
+//! `read_script` reads a script as a list of `Event`, one for each line, or answers its first bad line.
+//! `word` and `first_line` cut lines into words, for other scripts too.
+//! - `message_lines`: a message as lines of text, as `check` prints it.
+//! - `report`: the lines of a report, and how a command may end, `exits`.
+//! - `soak`: the script that a number generates, and the summary of its report.
 #![tactic(auto)]
 
 pub mod decimal;

@@ -1,5 +1,4 @@
-//! A message as lines of text: what it is, and a line for each thing that it has. It stands on the types of messages,
-//! `rm_message`. The layer above may use the contracts of `message_lines` and of `push_ranges`, by `specs/`.
+//! A message as lines of text: what it is, and a line for each thing that it has.
 
 mod body;
 mod lines;

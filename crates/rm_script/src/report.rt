@@ -1,8 +1,6 @@
 //! Reports of nodes, as text: a line for each line of a script of two nodes, and what the node with a number knows
-//! after the last one; and how a command may end, as a status and a line. It stands on the kinds of faults,
-//! `rm_message`, on ranges as `message_lines` writes them, and on the phases of both sides of a sequence. The layer
-//! above may use the writers, each of which appends what `specs/Report` says, and the numbers and lines of `exits`,
-//! which are those of `specs/Exits`.
+//! after the last one; and how a command may end, as a status and a line. Each writer appends what
+//! `specs/Report/Report` says. The statuses and lines of `exits` are those of `specs/Report/Exits`.
 
 pub mod exits;
 pub mod line;

@@ -1,7 +1,7 @@
-//! A node on connections: one request taken and answered, and packets posted with their responses taken, with peers
-//! that speak SOAP 1.2 or SOAP 1.1. It stands on a durable node, `rm_node`, on `http_endpoint` and `http_endpoint::link`, on the
-//! answers of `rm_answer`, and on the gate of SOAP 1.1, `rm_wire::soap11`. The layer above may use the list of calls that
-//! each makes of the node, and what is written and posted meanwhile.
+//! A node on connections, with peers that speak SOAP 1.2 or SOAP 1.1.
+//! - `serving`: one connection that came: its request is read, its body given to the node, and the answer written.
+//! - `posting`: packets posted where they go, with their responses given to the node.
+//! Contracts say each as the list of calls that it makes of the node, and what is written meanwhile.
 #![tactic(auto)]
 
 pub mod laws;

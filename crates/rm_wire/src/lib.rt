@@ -1,6 +1,8 @@
-//! The laws that join the writing and the reading of whole messages: that what is written of a message which keeps the
-//! rules is read back as this message and no other, and that the fault which answers a refusal keeps the rules. It has
-//! no code: it stands on `message_writer` and `message_reader`.
+//! The writing and the reading of whole messages, joined.
+//! - `laws`: what is written of a message that keeps the rules is read back as this message and no other.
+//! - `read_laws`: laws alone: a message that was read keeps these rules, and each refusal may be answered with a fault.
+//! - `soap11`: the gate for peers that speak SOAP 1.1. `decode11` reads such a message, `lift` writes it in SOAP 1.2
+//!   and `lower` writes one in SOAP 1.1.
 #![tactic(auto)]
 
 pub mod laws;

@@ -1,7 +1,5 @@
 //! A gate between peers that speak SOAP 1.1 and a node that speaks SOAP 1.2: messages of SOAP 1.1 from bytes, what they
-//! are in SOAP 1.2, and what messages of SOAP 1.2 are in SOAP 1.1. It stands on `message_reader` and `message_writer`,
-//! and its laws on `rm_wire` and `read_laws`. The layers above may use the contracts of `decode11`, `lift` and `lower`,
-//! by `specs/`, and the laws.
+//! are in SOAP 1.2, and what messages of SOAP 1.2 are in SOAP 1.1.
 
 pub mod decoder;
 pub mod laws;

@@ -1,5 +1,5 @@
-//! Tests of `rm_message::elements`. What a test does stands in a helper that answers a plain value, since a test with many steps
-//! is slow to prove.
+//! Tests of `rm_message::elements`. What a test does stands in a helper that answers a plain value, since a test with
+//! many steps is slow to prove.
 use rm_base::{Blob, Lapse, Memory};
 use rm_message::elements::{
     ElementError, Header, Lifecycle, deadline, read_duration, read_header, read_lifecycle,

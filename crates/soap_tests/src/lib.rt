@@ -1,5 +1,6 @@
-//! The tests of the crates that read and write documents and envelopes, a module a crate. They stand apart, since a
-//! crate with tests is proved a second time with them.
+//! Tests of the crates from `soap_lex` to `wsa_headers`, of `rm_message::elements` and of `rm_policy`.
+//! The policies are in `secured`, `common` and `written`, and `forms` has what they share.
+//! Tests stand in crates of their own, since a crate with tests is proved a second time with them.
 #![tactic(auto)]
 
 #[cfg(test)]

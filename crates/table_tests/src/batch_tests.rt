@@ -1,5 +1,4 @@
-//! The tests of the bytes of records, and of what tables answer to records that don't fit. They stand apart, since a
-//! crate with tests is proved a second time with them.
+//! Tests of the bytes of records, and of what tables answer to records that don't fit.
 
 #[cfg(test)]
 mod kinds;

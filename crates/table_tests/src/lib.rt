@@ -1,4 +1,7 @@
-//! The tests of a node's tables. They stand apart, since a crate with tests is proved a second time with them.
+//! Tests of `node_tables` and of `record_batch`.
+//! - `batch_tests`: the bytes of records, and what tables answer to records that don't fit.
+//! The other modules make tables of records, and ask them. Tests stand in crates of their own, since a crate with tests
+//! is proved a second time with them.
 #![tactic(auto)]
 
 pub mod batch_tests;

@@ -1,6 +1,6 @@
-//! The tables of a node with a batch of records ahead of them, which the journal doesn't have yet: what both say
-//! together. It stands on the tables, `node_tables`, which it doesn't change, and on what a list of records says,
-//! `record_batch::sequences`. The layer above works out a batch by it, record by record, each of which reads those before.
+//! The tables of a node with records ahead of them that are not in the journal yet, and what both say together.
+//! `Known` borrows the `Tables`, which stay as they are. `push` puts one more record ahead; readers answer by both.
+//! So a call works out its batch record by record, and `into_batch` hands it out.
 #![tactic(auto)]
 
 mod batch;

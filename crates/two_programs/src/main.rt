@@ -1,6 +1,6 @@
-//! Two programs on one machine. With words it is the program wsrm; with none it plays a message from one node to
-//! another, each in a folder of its own, whose commands are child processes of it, the close and the end of its
-//! sequence, items that are consumed, journals that are written anew or brought in, and what a node alone refuses.
+//! The program wsrm again, which tests itself as two nodes on one machine. With words it is wsrm. Without words it
+//! plays, by child processes in two folders, a message from one node to the other, the end of its sequence, consumed
+//! items, journals that are written anew or brought in, and what a node alone refuses.
 #![tactic(auto)]
 
 mod play;

@@ -1,5 +1,5 @@
-//! Tests of `rm_wire::soap11`: envelopes of SOAP 1.1 as they are read, and the texts that messages are lifted and lowered
-//! to, byte for byte.
+//! Tests of `rm_wire::soap11`: envelopes of SOAP 1.1 as they are read, and the texts that messages are lifted and
+//! lowered to, byte for byte.
 
 #[cfg(test)]
 mod forms;

@@ -1,6 +1,6 @@
 //! Tests of `message_reader` and `message_writer`: whole messages as they are read in the styles of several stacks, in
 //! pieces by `soap_pieces`, the greatest length, and messages that break off. Other documents that are refused are
-//! cases of the command `check`. They stand apart, since a crate with tests is proved a second time with them.
+//! cases of the command `check`.
 
 #[cfg(test)]
 mod forms;

@@ -1,6 +1,5 @@
 //! Tests of `message_reader` and `message_writer`, besides those of `wire_cases`: the texts of faults and of messages,
-//! byte for byte, and what is read from envelopes of many forms. They stand apart, since a crate with tests is proved a
-//! second time with them.
+//! byte for byte, and what is read from envelopes of many forms.
 
 #[cfg(test)]
 mod blocks;

@@ -1,7 +1,7 @@
-//! Message addressing properties and endpoint references, as WS-Addressing 1.0 carries them in header blocks and
-//! elements: values of trees, and the texts of values. It stands on what elements have, `soap_values`, and on
-//! `soap_writer`. The layers above may use the contracts of the readers and writers, and the laws that what is written
-//! is read back, by `specs/`.
+//! Addressing headers and endpoint references of WS-Addressing 1.0, read and written.
+//! `read_addressing` makes `Addressing` of an envelope's header blocks, or answers the first cause that there is none.
+//! `read_epr` makes an `Epr` of an element. `write_addressing` and `write_epr` write them.
+//! By the laws what is written is read back, among other header blocks too.
 #![tactic(auto)]
 
 pub mod addressing;

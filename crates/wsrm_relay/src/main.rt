@@ -1,4 +1,4 @@
-//! The program wsrm_relay: a script of three nodes on standard input, over disks and a wire in memory.
+//! The program wsrm_relay: plays a script of three nodes from standard input, over disks and a wire in memory.
 #![tactic(auto)]
 
 use rm_base::wire::MemWire;

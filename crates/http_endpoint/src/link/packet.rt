@@ -4,7 +4,8 @@ ghost use Rattle.http_endpoint.specs.Targets.{target_of};
 ghost use Rattle.http_endpoint.specs.Texts.{request_text_as};
 ghost use Rattle.rm_base.specs.Outside.{AppendsFront};
 ghost use Rattle.http_endpoint.specs.Link.Lines.{line_of};
-ghost use Rattle.http_endpoint.specs.Link.Posts.{Ends, IsBegun, IsBegunAs, IsBegunTo, IsPost, IsPostAs, IsPostTo, Writes};
+ghost use Rattle.http_endpoint.specs.Link.Posts.{Ends, IsBegun, IsBegunAs, IsBegunTo, IsPost, IsPostAs, IsPostTo};
+ghost use Rattle.http_endpoint.specs.Link.Posts.{Writes};
 ghost use Rattle.http_endpoint.specs.Link.Posts.{ended_by};
 
 use crate::link::link::Link;

@@ -1,4 +1,4 @@
-//! What follows from the layout of a journal. Proofs above may cite the laws as lemmas of specs/EntryLemmas.
+//! What follows from the layout of a journal. Proofs above may cite the laws as lemmas of specs/Journal/EntryLemmas.
 
 ghost use Rattle.std.specs.Prelude.{◌≡◌, ◌⊎◌, ℕ, ◌+◌, ◌∷◌, [], ◌++◌, List, true, length, codes};
 ghost use Rattle.std.specs.List.{flat_map};

@@ -288,7 +288,7 @@ fn lapse_within(span: Span) -> Option<Lapse>
 /// A duration of at most `MOST_MONTHS` and `MOST_MS`, and None for bytes that are no such duration.
 /// Digits past the third behind the point of the seconds are dropped, but a duration that isn't zero is at least a
 /// millisecond. It takes no memory. None exactly where the bytes are no duration of the grammar within its limits.
-#[tactic(auto, unfolding(crate::specs::Elements::Duration::duration_in), using(crate::proofs::ElementsLemmas::Spans::same_lapse))]
+#[tactic(auto, unfolding(crate::specs::Elements::Duration::duration_in), using(crate::proofs::Spans::same_lapse))]
 pub fn read_duration(bytes: &[u8]) -> Option<Lapse>
     ensures { result ≡ duration_in bytes.now }
 {

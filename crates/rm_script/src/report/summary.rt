@@ -1,6 +1,7 @@
 //! The lines of a report behind the last line of its script: what the nodes know.
 ghost use Rattle.std.specs.Prelude.{◌≡◌, ◌++◌, OnOk};
-ghost use Rattle.rm_script.specs.Report.Report.{out_text, in_text, counts_text, item_text, down_text, place_text, ranges_text};
+ghost use Rattle.rm_script.specs.Report.Report.{out_text, in_text, counts_text, item_text, down_text, place_text};
+ghost use Rattle.rm_script.specs.Report.Report.{ranges_text};
 ghost use Rattle.rm_script.specs.Report.Report.{consumed_text, receiving_text, sending_text};
 
 use crate::report::names::{behaviour_name, in_phase_name, out_phase_name};
