@@ -34,6 +34,9 @@ use std::alloc::Global;
 /// - `status`: 2 comes exactly where the words are no command. Of bytes that are what the command reads comes 0, 5, 4
 ///   or 10; of others 3 (`replay`) or 9, 4 or 10; of more bytes than its limit, 16777216 or 2097152, 8, 4 or 10. Of
 ///   `soak` comes 0, 5 or 10.
+/// - `word`: for `replay` and `soak`: at 0 and 5 the headline holds at each pair of images of both disks, so whatever a
+///   crash would leave of them. At 10 it holds too, unless the stage is as it was, or a node was not made and no line
+///   was played. At each other status the stage is as it was.
 pub fn run<S: Source, K: Sink, M: CrashDisk, W: Wire>(
     alloc: Global,
     words: &[Blob],

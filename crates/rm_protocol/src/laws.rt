@@ -42,7 +42,11 @@ use record_batch::snapshot::{
 /// Whatever is sent, lost, repeated, reordered and consumed, and whichever node crashes at whichever device call, every
 /// run keeps the headline at each pair of images of both disks, and so it keeps what is said of loose sequences. It is
 /// so where nodes write the lists of their entries anew, at any moment and with a crash at any of the five device
-/// calls.
+/// calls. The headline (`KeepsWord`) says of each sequence that isn't loose: what its application consumed, followed by
+/// its inbox past the cursor, where nothing is gone, is a prefix of all that its source ever accepted (`prefix`); under
+/// DiscardEntireSequence it is none or all of it (`whole`); each number that the source counts as acknowledged was
+/// received (`held`); without a source there is nothing (`none`), and an outgoing sequence with an identifier has its
+/// match (`matched`).
 pub fn every_run_keeps_the_word()
     ensures { (terms : Terms) (one two : Text) → AreTerms terms → AreMade terms one two → (events : List Event)
         → KeepsAll (run terms events (start one two)) }
@@ -66,7 +70,7 @@ pub fn every_step_keeps_the_agreement()
 }
 
 /// What was released to an application, and what it consumed, at one moment of such a run begins what is at each later
-/// one.
+/// one. So it is whatever fails, crashes or is written anew between the two moments.
 pub fn what_was_consumed_stays()
     ensures { ConsumedStays }
 {

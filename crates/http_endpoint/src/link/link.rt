@@ -42,7 +42,8 @@ pub trait Link {
     fn asked(conn: Self::Asking) -> Self::Hearing
         ensures { Self.Hearing.told result ≡ Self.Asking.told conn };
 
-    /// Ends a connection. What was written on it is known from then on, where link and connection tell it.
+    /// Ends a connection. What was written on it is known from then on, where link and connection tell it. It notes
+    /// what the connection holds; nothing else is noted.
     fn hang_up(&mut self, conn: Self::Hearing)
         ensures { Ended (told self.old) (told self.new) (Self.Hearing.told conn).held };
 }

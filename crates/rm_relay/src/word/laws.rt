@@ -20,7 +20,8 @@ pub fn what_one_says_is_strange_to_the_others()
 
 /// Whatever is sent, forwarded, trimmed, lost, repeated and reordered, and whichever node crashes at whichever device
 /// call: what node 2 forwarded is a prefix of what it received, and what node 3 has is one of what node 1 accepted.
-/// Node 2 consumed no more than it accepted, so the item that is to be forwarded is there once it came.
+/// Node 2 consumed no more than it accepted, so the item that is to be forwarded is there once it came. It is so at
+/// each three images of the disks.
 pub fn every_relay_keeps_its_word()
     ensures { EachRelayKeepsItsWord }
 {

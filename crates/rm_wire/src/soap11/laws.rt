@@ -51,7 +51,8 @@ pub fn a_lifted_message_is_read()
 }
 
 /// And so is its payload, to the byte. Bound around it are what was bound, the prefix of Body, and of the frame those
-/// prefixes that it doesn't bind itself. A payload without a number doesn't begin with a Fault of SOAP 1.2.
+/// prefixes that it doesn't bind itself. A payload without a number doesn't begin with a Fault of SOAP 1.2. It is said
+/// of each payload but one without a number whose first element is a Fault of SOAP 1.2.
 pub fn a_lifted_payload_is_read()
     ensures { (bytes : List ℕ) (m : Value) (spells : Spells11 bytes m) (p : Held) → m.body ≡ body.Payload p
         → (number : ℕ) → IsFirstFree number p.scope
