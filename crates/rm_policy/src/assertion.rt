@@ -39,7 +39,7 @@ pub struct Assertion {
 /// Whether our nodes keep the assertion on an ordered sequence, or on a loose one. They deliver each message exactly
 /// once, on an ordered sequence in the order of the numbers and on a loose one as the messages come. An ordered
 /// sequence is granted exactly where the assurance is unsaid or exactly-once, with InOrder or without; a loose one
-/// exactly where InOrder isn't asked besides.
+/// exactly where besides that InOrder isn't asked for.
 pub fn grants(assertion: &Assertion, loose: bool) -> bool
     ensures { result ≡ is_granted assertion.now loose }
 {

@@ -104,8 +104,8 @@ impl Journal {
     /// - `behind`: the journal ends no earlier than its list begins.
     /// - `seen`, `moments`, `settled`: whatever comes, what is read stays, a crash leaves no more than before, and at
     ///   Ok nothing is unsynced.
-    /// - NotAJournal: exactly where the disk reads for no list in either bank, and neither of these comes (`none`,
-    ///   `fits`).
+    /// - NotAJournal: exactly where the disk reads for no list in either bank, and neither Memory nor Disk comes
+    ///   (`none`, `fits`).
     /// - Memory: before any device call, or after two or three that went well (`memory`).
     /// - Disk: exactly where the fuse lies among the device calls (`cause`, `fuse`).
     pub fn mount<D: Disk>(alloc: Global, disk: &mut D) -> Result<Journal, JournalError>

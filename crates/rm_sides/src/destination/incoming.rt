@@ -132,7 +132,7 @@ impl Incoming {
         self.arrivals.as_slice()
     }
 
-    /// What `take` would answer, but for want of memory. Terminated, Closed, Duplicate or PastWindow comes exactly with
+    /// What `take` would answer, but for want of memory. Terminated, Duplicate, Closed or PastWindow comes exactly with
     /// the first that holds of: the phase is Ended at the moment; the number was received; the phase is Closed; the
     /// number is more than 1024 past the front.
     pub fn probe(&self, number: u64, now: u64) -> Result<Took, DestError>
