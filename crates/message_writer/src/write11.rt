@@ -152,9 +152,8 @@ fn has_code(body: &Body) -> bool
     }
 }
 
-/// The text of a message in SOAP 1.1; none where it is a fault whose code is DataEncodingUnknown, which SOAP 1.1
-/// doesn't
-/// have. It has the header blocks of SOAP 1.2, but `mustUnderstand="1"` and no NotUnderstood, and for a fault of
+/// The text of a message in SOAP 1.1; none where it is a fault whose code is DataEncodingUnknown, which SOAP 1.1 lacks.
+/// It has the header blocks of SOAP 1.2, but `mustUnderstand="1"` and no NotUnderstood, and for a fault of
 /// WS-ReliableMessaging a SequenceFault last; its Fault has faultcode, faultstring and detail.
 pub fn encode11(alloc: Global, message: &Message) -> Result<Option<Blob>, Memory>
     ensures { IfOk result (λ bytes. bytes ≡ text11_if (has_code11 message.now.body) message.now) }

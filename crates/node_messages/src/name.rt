@@ -20,7 +20,7 @@ pub enum Name {
 }
 
 impl Name {
-    /// Its action.
+    /// The addressing action of the message.
     pub fn action(self) -> &'static [u8]
         ensures is { result.now ≡ rm_action (name_text self) }
         ensures is_text { IsText 2048 result.now }

@@ -219,7 +219,7 @@ fn wish(to: Uri) -> Wish
     }
 }
 
-/// Accepts a payload.
+/// Gives the node a payload to number, record and send in a sequence.
 pub(crate) fn accept_payload<D: Disk, L: Link, C>(
     host: &mut Host<D, L, C>,
     node: &mut Node,

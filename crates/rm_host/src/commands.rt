@@ -161,7 +161,7 @@ fn posted_text(alloc: Global, posted: Posted) -> Result<Blob, Memory>
     Ok(text)
 }
 
-/// What is in an inbox.
+/// The items in the inbox of a sequence that receives, a line each.
 /// - `does`: no call of the node is made. It prints the payloads that aren't gone, each with its number, and how many
 ///   items the inbox has, the gone ones too.
 pub fn inbox<D: Disk, L: Link, C: Clock>(

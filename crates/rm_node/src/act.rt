@@ -1,4 +1,5 @@
-//! What an answer says is done: its records are written, and then its packets are handed out.
+//! What an answer says is done: its records are written, and what waits is moved. Calls of a node that is down are
+//! refused.
 ghost use Rattle.std.specs.Prelude.{◌≡◌, true, false, is_ok, IfErr, OnOk};
 ghost use Rattle.rm_disk.specs.Journal.JournalState.{end_of};
 ghost use Rattle.node_laws.specs.Answers.Serving.{Serves};

@@ -62,7 +62,7 @@ fn answer_to_refusal(
     Ok(unfetched(answer))
 }
 
-/// The answer to bytes.
+/// The answer to bytes that came: those of a message are read, others are refused with a fault.
 pub(crate) fn answer_to_bytes(
     alloc: Global,
     tables: &Tables,

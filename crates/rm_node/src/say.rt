@@ -90,7 +90,7 @@ fn own_answer(
     }
 }
 
-/// The answer to a call.
+/// The answer to a call: of bytes that came by `answer_to_bytes`, of the others by `own_answer`.
 fn answer_to(
     alloc: Global,
     tables: &Tables,

@@ -1,4 +1,4 @@
-//! A call of a node.
+//! A call of a node, from what is asked to what is handed out.
 ghost use Rattle.std.specs.Prelude.{◌≡◌, false};
 ghost use Rattle.node_laws.specs.Answers.Answers.{outcome_seen};
 ghost use Rattle.rm_node.specs.Asked.{MayBeAsked};

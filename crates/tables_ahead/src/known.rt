@@ -119,7 +119,7 @@ impl<'a> Known<'a> {
         self.batch
     }
 
-    /// The tables.
+    /// The tables that the records are ahead of.
     pub fn tables(&self) -> &'a Tables
         ensures { result.now.records ≡ self.now.records }
     {

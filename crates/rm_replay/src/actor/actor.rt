@@ -79,7 +79,7 @@ impl Actor {
         self.node.tables()
     }
 
-    /// The clock.
+    /// What the node's clock tells, in milliseconds since 1970.
     pub fn clock(&self) -> u64
         ensures { result ≡ self.now.clock }
     {
