@@ -85,19 +85,18 @@ fn addressed_refusal(
 ) -> Result<Refusal, Memory>
     ensures { IfOk result (λ refusal. refusal ≡ addressed_refusal_of kind addressing ident) }
 {
-    let Addressing {
-        to: _,
-        action: _,
-        message_id,
-        relates: _,
-        reply_to,
-        fault_to,
-        params: _,
-    } = addressing;
+    let mut addressing = addressing;
+    let endpoint = fault_endpoint(
+        alloc,
+        addressing.fault_to.take(),
+        addressing.reply_to.take(),
+    );
+    let relates = addressing.message_id.take();
+    drop(addressing);
     Ok(Refusal {
         kind,
-        endpoint: fault_endpoint(alloc, fault_to, reply_to)?,
-        relates: message_id,
+        endpoint: endpoint?,
+        relates,
         names: Items::new(alloc),
         ident,
     })

@@ -21,10 +21,19 @@ pub const ADDRESSING: &[u8] = b"http://www.w3.org/2005/08/addressing";
 
 /// An endpoint reference: where messages go, and the reference parameters that go with each of them. The parameters
 /// have no declarations and no mark; metadata is not kept.
-#[derive(Debug, Drop)]
+#[derive(Debug)]
 pub struct Epr {
     pub address: Uri,
     pub params: Elements,
+}
+
+impl Drop for Epr {
+    fn drop(self) {
+        let Epr {
+            address: _,
+            params: _,
+        } = self;
+    }
 }
 
 impl Epr {
