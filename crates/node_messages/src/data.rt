@@ -58,11 +58,8 @@ pub fn data_message(
 pub fn into_payload(message: Message) -> Option<Blob>
     ensures { result ≡ payload_of message.body }
 {
-    let Message { body, .. } = message;
-    match body {
-        Body::Payload(payload) => Some(payload.bytes),
-        Body::Empty => None,
-        Body::Lifecycle(_) => None,
-        Body::Fault(_) => None,
+    match message.into_body().into_payload() {
+        Some(payload) => Some(payload.bytes),
+        None => None,
     }
 }

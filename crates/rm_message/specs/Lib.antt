@@ -1,3 +1,4 @@
 pub mod Actions
 pub mod Kinds
 pub mod Elements
+pub mod Payloads

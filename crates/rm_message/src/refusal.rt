@@ -94,13 +94,26 @@ impl FaultKind {
 
 /// A refusal: its kind, where its fault goes, the message that it relates to, the names that were not understood, and
 /// the sequence that it speaks of.
-#[derive(Debug, Drop)]
+#[derive(Debug)]
 pub struct Refusal {
     pub kind: FaultKind,
     pub endpoint: Epr,
     pub relates: Option<Uri>,
     pub names: Names,
     pub ident: Option<Ident>,
+}
+
+// It's written, and not derived: a value whose drop is derived is taken apart at each place where it may be let go.
+impl Drop for Refusal {
+    fn drop(self) {
+        let Refusal {
+            kind: _,
+            endpoint: _,
+            relates: _,
+            names: _,
+            ident: _,
+        } = self;
+    }
 }
 
 /// Why bytes were not decoded.

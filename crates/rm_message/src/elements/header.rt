@@ -51,11 +51,22 @@ pub enum AckKind {
 }
 
 /// A SequenceAcknowledgement block: section 3.9. `last` tells whether Final stands in it.
-#[derive(Debug, Drop)]
+#[derive(Debug)]
 pub struct AckBlock {
     pub ident: Ident,
     pub kind: AckKind,
     pub last: bool,
+}
+
+// It's written, and not derived: a value whose drop is derived is taken apart at each place where it may be let go.
+impl Drop for AckBlock {
+    fn drop(self) {
+        let AckBlock {
+            ident: _,
+            kind: _,
+            last: _,
+        } = self;
+    }
 }
 
 /// A header block: `Ask` is AckRequested, section 3.8, and `Pending` is MessagePending of WS-MakeConnection 1.1.

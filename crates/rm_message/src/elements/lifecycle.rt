@@ -40,11 +40,21 @@ pub struct Offer {
     pub behaviour: Behaviour,
 }
 
-#[derive(Debug, Drop)]
+#[derive(Debug)]
 pub struct CreateSequence {
     pub acks_to: Epr,
     pub expires: Lapse,
     pub offer: Option<Offer>,
+}
+
+impl Drop for CreateSequence {
+    fn drop(self) {
+        let CreateSequence {
+            acks_to: _,
+            expires: _,
+            offer: _,
+        } = self;
+    }
 }
 
 /// A CreateSequenceResponse. `accept` is the AcksTo of Accept, where the offer was taken.
@@ -71,7 +81,7 @@ pub struct MakeConnection {
 }
 
 /// The one element of a body that opens, closes or ends a sequence, or asks for a waiting message.
-#[derive(Debug, Drop)]
+#[derive(Debug)]
 pub enum Lifecycle {
     Create(CreateSequence),
     CreateResponse(CreateResponse),
@@ -80,6 +90,21 @@ pub enum Lifecycle {
     Terminate(Finish),
     TerminateResponse(Ident),
     Make(MakeConnection),
+}
+
+// It's written, and not derived: a value whose drop is derived is taken apart at each place where it may be let go.
+impl Drop for Lifecycle {
+    fn drop(self) {
+        match self {
+            Lifecycle::Create(_) => {}
+            Lifecycle::CreateResponse(_) => {}
+            Lifecycle::Close(_) => {}
+            Lifecycle::CloseResponse(_) => {}
+            Lifecycle::Terminate(_) => {}
+            Lifecycle::TerminateResponse(_) => {}
+            Lifecycle::Make(_) => {}
+        }
+    }
 }
 
 // The endpoint reference that the one child of a name is.
