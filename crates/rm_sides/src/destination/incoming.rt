@@ -37,7 +37,7 @@ pub(crate) struct Stop {
 
 /// The destination's side of one sequence. Room that was made for messages to come counts until it is used or given up.
 /// What is gone is a count of the first messages, and a set on a loose sequence.
-#[derive(Debug, Drop)]
+#[derive(Debug)]
 pub struct Incoming {
     behaviour: Behaviour,
     deadline: Option<u64>,
@@ -51,6 +51,23 @@ pub struct Incoming {
     closed: Option<Stop>,
     ended: Option<Stop>,
     room: usize,
+}
+
+impl Drop for Incoming {
+    fn drop(self) {
+        let Incoming {
+            behaviour: _,
+            deadline: _,
+            gone: _,
+            purged: _,
+            cursor: _,
+            arrivals: _,
+            numbers: _,
+            closed: _,
+            ended: _,
+            room: _,
+        } = self;
+    }
 }
 
 impl Model for Incoming {

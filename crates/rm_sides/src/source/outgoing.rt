@@ -22,7 +22,7 @@ use std::mem;
 
 /// The source's side of one sequence. Room that was made for payloads and ranges to come counts until it is used or
 /// given up.
-#[derive(Debug, Drop)]
+#[derive(Debug)]
 pub struct Outgoing {
     alloc: Global,
     phase: OutPhase,
@@ -31,6 +31,20 @@ pub struct Outgoing {
     acked: RangeSet,
     payloads_claimed: usize,
     ranges_claimed: usize,
+}
+
+impl Drop for Outgoing {
+    fn drop(self) {
+        let Outgoing {
+            alloc: _,
+            phase: _,
+            dropped: _,
+            accepted: _,
+            acked: _,
+            payloads_claimed: _,
+            ranges_claimed: _,
+        } = self;
+    }
 }
 
 impl Model for Outgoing {
