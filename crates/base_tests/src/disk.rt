@@ -1,7 +1,7 @@
 //! Tests of a disk in memory.
 
 use rm_disk::journal::JournalError;
-use rm_disk::{CrashDisk, Disk, MemDisk};
+use rm_disk::{CrashDisk, Disk, MemDisk, ReadDisk};
 use std::alloc::Global;
 
 // All that a read gives.

@@ -273,6 +273,38 @@ fn a_journal_that_is_down(rt: HostRuntime) -> Result<(), Fail> {
     Ok(())
 }
 
+// Mounts the disk and adds two entries in one row: the answer, and where the journal ends then.
+fn add_row(
+    alloc: Global,
+    disk: &mut MemDisk,
+    first: &[u8],
+    second: &[u8],
+) -> Result<(Result<(), JournalError>, u64), JournalError>
+    requires first { length first.now ≤ longest }
+    requires second { length second.now ≤ longest }
+{
+    let mut journal = Journal::mount(alloc, disk)?;
+    let first = Blob::from_slice(alloc, first)?;
+    let second = Blob::from_slice(alloc, second)?;
+    let row = vec![in alloc; first, second]?;
+    let answer = journal.append_all(disk, &row);
+    Ok((answer, journal.end()))
+}
+
+// The entries `c` and `de` behind `ab`.
+const ROW: &[u8] =
+    b"WSRMJNL2\0\0\0\0\0\0\0\0\x19\0\0\0\0\0\0\0\x19\x01\0\0\0\x02ab\x01\0\0\0\x01c\x01\0\0\0\x02de\0";
+
+#[test]
+fn a_row_of_entries(rt: HostRuntime) -> Result<(), Fail> {
+    let mut disk = disk_of(rt.alloc(), &ONE_ENTRY)?;
+    assert!(rt; add_row(rt.alloc(), &mut disk, b"c", b"de") == Ok((Ok(()), 45)));
+    assert!(rt; has_bytes(rt.alloc(), &mut disk, ROW) == Ok(true));
+    assert!(rt; has_entry(rt.alloc(), &mut disk, 2, b"c") == Ok(true));
+    assert!(rt; has_entry(rt.alloc(), &mut disk, 3, b"de") == Ok(true));
+    Ok(())
+}
+
 // Mounts the disk and writes the list anew, of this one entry: the answer, and where the journal ends then, or None
 // where it is down.
 fn compact(

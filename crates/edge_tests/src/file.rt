@@ -1,7 +1,7 @@
 //! The file as a disk, and as it is read beside its owner.
 
-use rm_disk::Disk;
 use rm_disk::file::{FileDisk, FileReader, NAME};
+use rm_disk::{Disk, ReadDisk};
 use std::fs;
 
 // What is written stands in the file, also for the next process; while one has it, another's calls fail and write

@@ -3,7 +3,7 @@ ghost use Rattle.std.specs.Prelude.{IfOk};
 ghost use Rattle.rm_serve.specs.Steps.{IsReady, place_of};
 
 use rm_base::{Blob, MemConn, Memory, Numbers, Uri, push_decimal};
-use rm_disk::Disk;
+use rm_disk::{Disk, ReadDisk};
 use rm_node::{Node, NodeError};
 use rm_serve::{Served, serve_one11};
 use std::alloc::Global;
@@ -86,7 +86,7 @@ pub(crate) fn uri(alloc: Global, bytes: &[u8]) -> Result<Uri, NodeError> {
 }
 
 /// Node 1, made on a disk.
-pub(crate) fn made<D: Disk>(alloc: Global, disk: &mut D) -> Result<Node, NodeError>
+pub(crate) fn made<D: ReadDisk>(alloc: Global, disk: &mut D) -> Result<Node, NodeError>
     ensures ready { IfOk result (λ node. IsReady D.tells (place_of (D.told disk.new) node)) }
 {
     let address = uri(alloc, b"http://localhost:18473/")?;

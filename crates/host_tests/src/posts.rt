@@ -7,7 +7,7 @@ use crate::peer::{
 };
 use crate::watched::Watched;
 use rm_base::{Blob, MemConn, Memory};
-use rm_disk::{Disk, MemDisk};
+use rm_disk::{Disk, MemDisk, ReadDisk};
 use rm_node::{Node, NodeError, Out, Outs};
 use rm_serve::{Posted, post_due11};
 use std::alloc::Global;
@@ -90,7 +90,7 @@ fn post<D: Disk>(
 }
 
 // The same of what a new node on a disk hands out that was asked so.
-fn heard<D: Disk + Drop>(
+fn heard<D: ReadDisk + Drop>(
     alloc: Global,
     mut disk: D,
     start: &[u8],
@@ -173,7 +173,7 @@ fn untold(alloc: Global) -> Result<Outs, NodeError> {
 }
 
 // What comes of packets at a new node on a disk.
-fn posted_on<D: Disk + Drop>(
+fn posted_on<D: ReadDisk + Drop>(
     alloc: Global,
     mut disk: D,
     outs: Outs,

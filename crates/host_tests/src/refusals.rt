@@ -2,14 +2,14 @@
 use crate::peer::{conn, made, with_head};
 use http_endpoint::HttpError;
 use rm_base::{Blob, MemConn, Memory};
-use rm_disk::{Disk, MemDisk};
+use rm_disk::{MemDisk, ReadDisk};
 use rm_node::NodeError;
 use rm_serve::{ConnEnd, Served, serve_one, serve_one11};
 use std::alloc::Global;
 use std::test::Fail;
 
 // What comes of these bytes at a new node on a disk, and the connection.
-fn served_on<D: Disk + Drop>(
+fn served_on<D: ReadDisk + Drop>(
     alloc: Global,
     mut disk: D,
     text: Blob,
@@ -21,7 +21,7 @@ fn served_on<D: Disk + Drop>(
 }
 
 // The same where the peer speaks SOAP 1.1.
-fn served11_on<D: Disk + Drop>(
+fn served11_on<D: ReadDisk + Drop>(
     alloc: Global,
     mut disk: D,
     text: Blob,

@@ -6,7 +6,7 @@ use crate::peer::{
     with_head,
 };
 use rm_base::{Blob, MemConn, Memory};
-use rm_disk::{Disk, MemDisk};
+use rm_disk::{Disk, MemDisk, ReadDisk};
 use rm_node::{Node, NodeError};
 use rm_serve::{ConnEnd, Served};
 use std::alloc::Global;
@@ -78,7 +78,7 @@ fn eleven(alloc: Global, content: &[u8]) -> Result<Blob, Memory> {
 }
 
 // A sequence is asked for, and its first message comes.
-fn granted<D: Disk + Drop>(
+fn granted<D: ReadDisk + Drop>(
     alloc: Global,
     mut disk: D,
 ) -> Result<((bool, u64), (bool, u64)), NodeError> {
@@ -104,7 +104,7 @@ fn a_sequence_is_granted_and_a_message_acknowledged(rt: HostRuntime) -> Result<(
 }
 
 // The same of a request at a new node.
-fn first_on<D: Disk + Drop>(
+fn first_on<D: ReadDisk + Drop>(
     alloc: Global,
     mut disk: D,
     body: Blob,
@@ -148,7 +148,7 @@ fn what_is_no_message_of_soap_1_1_is_kept_out(rt: HostRuntime) -> Result<(), Fai
 
 // A sequence is asked for whose acknowledgements go elsewhere: whether it is granted, and the connection on which its
 // first message comes then.
-fn elsewhere<D: Disk + Drop>(alloc: Global, mut disk: D) -> Result<(bool, MemConn), NodeError> {
+fn elsewhere<D: ReadDisk + Drop>(alloc: Global, mut disk: D) -> Result<(bool, MemConn), NodeError> {
     let mut node = made(alloc, &mut disk)?;
     let body = eleven(alloc, CREATE_ELSEWHERE)?;
     let (is_granted, _) = is_answered(alloc, &mut node, &mut disk, body, OK, GRANTED)?;

@@ -10,12 +10,12 @@ ghost use Rattle.node_store.specs.Failed.{is_disk};
 ghost use Rattle.node_store.specs.declared.error.StoreError.TheVariants.{Memory as WantsMemory, Disk as DiskFails};
 
 use crate::error::StoreError;
-use rm_disk::Disk;
+use rm_disk::ReadDisk;
 use rm_disk::journal::{Journal, JournalError};
 use std::alloc::Global;
 
 /// Makes a disk an empty journal.
-pub fn format<D: Disk>(alloc: Global, disk: &mut D) -> Result<Journal, StoreError>
+pub fn format<D: ReadDisk>(alloc: Global, disk: &mut D) -> Result<Journal, StoreError>
     ensures made { IfOk result (λ journal. journal ≡ journal_of []) }
     ensures fits { IsTrue D.tells → IfOk result (Fits [] (D.told disk.new).past) }
     ensures wanted { IsTrue D.tells → result ≡ Err WantsMemory → (D.told disk.new).past ≡ (D.told disk.old).past }

@@ -19,11 +19,11 @@ use crate::error::{ImportError, MountError};
 use crate::mount::serve;
 use node_tables::Tables;
 use rm_disk::journal::{Journal, JournalError};
-use rm_disk::{Disk, MemDisk};
+use rm_disk::{MemDisk, ReadDisk};
 use std::alloc::Global;
 
 /// The journal that a disk is made, and the tables of its records. The bytes are tested before the first device call.
-pub(crate) fn import<D: Disk>(
+pub(crate) fn import<D: ReadDisk>(
     alloc: Global,
     disk: &mut D,
     bytes: &[u8],
@@ -75,7 +75,11 @@ fn tables_in(alloc: Global, bytes: &[u8]) -> Result<Tables, ImportError>
 }
 
 /// The journal of the entries for which bytes of the layout before stand, on a disk that has nothing else.
-fn open_before<D: Disk>(alloc: Global, disk: &mut D, bytes: &[u8]) -> Result<Journal, ImportError>
+fn open_before<D: ReadDisk>(
+    alloc: Global,
+    disk: &mut D,
+    bytes: &[u8],
+) -> Result<Journal, ImportError>
     ensures made { IfOk result (λ journal. (entries : List (List ℕ)) × StandsAsBefore entries bytes.now
         × (journal ≡ journal_of entries)) }
     ensures fits { IsTrue D.tells → (entries : List (List ℕ)) → StandsAsBefore entries bytes.now →

@@ -23,12 +23,15 @@ use crate::windows::{TOO_MANY_BYTES, keep_windows, may_serve};
 use node_tables::Tables;
 use record_batch::laws::what_is_written_is_read;
 use record_batch::sequences::laws::a_byte_for_each_number;
-use rm_disk::Disk;
+use rm_disk::ReadDisk;
 use rm_disk::journal::{Journal, JournalError};
 use std::alloc::Global;
 
 /// The journal of a node on a disk, and the tables of its records.
-pub(crate) fn find<D: Disk>(alloc: Global, disk: &mut D) -> Result<(Journal, Tables), MountError>
+pub(crate) fn find<D: ReadDisk>(
+    alloc: Global,
+    disk: &mut D,
+) -> Result<(Journal, Tables), MountError>
     ensures found { IsTrue D.tells →
         IfOk result (λ x. Finds (D.told disk.old).past (D.told disk.new).past (stored x.0 x.1.records)) }
     ensures none { IsTrue D.tells → result ≡ Err IsNoJournal → IsNoNode (seen_of (D.told disk.old).past) }
@@ -52,7 +55,7 @@ pub(crate) fn find<D: Disk>(alloc: Global, disk: &mut D) -> Result<(Journal, Tab
 }
 
 /// The tables of a journal's records, where its entries are the batches of a node.
-pub(crate) fn serve<D: Disk>(
+pub(crate) fn serve<D: ReadDisk>(
     alloc: Global,
     journal: &mut Journal,
     disk: &mut D,
@@ -88,7 +91,7 @@ pub(crate) fn serve<D: Disk>(
 }
 
 /// The journal on a disk.
-fn open<D: Disk>(alloc: Global, disk: &mut D) -> Result<Journal, MountError>
+fn open<D: ReadDisk>(alloc: Global, disk: &mut D) -> Result<Journal, MountError>
     ensures fits { IsTrue D.tells → IfOk result (λ journal. (entries : List (List ℕ))
         × StandsAt journal.bank entries (seen_of (D.told disk.old).past)
         × Fits entries (D.told disk.new).past journal) }

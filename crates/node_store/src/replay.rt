@@ -21,13 +21,13 @@ use node_tables::{TableError, Tables};
 use record_batch::laws::what_is_written_is_read;
 use record_batch::{BatchError, Record, read_batch};
 use rm_base::Blob;
-use rm_disk::Disk;
+use rm_disk::ReadDisk;
 use rm_disk::journal::{Journal, JournalError};
 use std::alloc::Global;
 
 /// The tables of the records of a journal's entries, where each entry is a batch whose records may come after those
 /// before it and keep their limits. One entry is held at a time.
-pub(crate) fn replay<D: Disk>(
+pub(crate) fn replay<D: ReadDisk>(
     alloc: Global,
     journal: &mut Journal,
     disk: &mut D,
@@ -55,7 +55,7 @@ pub(crate) fn replay<D: Disk>(
 }
 
 /// Adds the records of the entry with a number, counted from 1.
-fn add_entry<D: Disk>(
+fn add_entry<D: ReadDisk>(
     alloc: Global,
     journal: &mut Journal,
     tables: &mut Tables,
@@ -83,7 +83,11 @@ fn add_entry<D: Disk>(
 }
 
 /// The entry with a number, counted from 1.
-fn read_entry<D: Disk>(journal: &mut Journal, disk: &mut D, number: u64) -> Result<Blob, MountError>
+fn read_entry<D: ReadDisk>(
+    journal: &mut Journal,
+    disk: &mut D,
+    number: u64,
+) -> Result<Blob, MountError>
     requires number { (1 ≤ number) × (number ≤ length journal.old.gates) }
     requires up { journal.old.is_down ≡ false }
     requires fits { IsTrue D.tells → (entries : List (List ℕ)) × Fits entries (D.told disk.old).past journal.old }

@@ -38,8 +38,8 @@ use record_batch::Record;
 use record_batch::laws::what_is_written_is_read;
 use record_batch::sequences::laws::a_byte_for_each_number;
 use rm_base::Uri;
-use rm_disk::Disk;
 use rm_disk::journal::Journal;
+use rm_disk::{Disk, ReadDisk};
 use std::alloc::Global;
 use std::marker::Model;
 
@@ -104,7 +104,7 @@ impl Store {
     /// as it was or has an empty journal, and after a fault of the disk it holds anything.
     /// - `made`, `has`: one batch, the record of its number and address.
     /// - Disk: not on a disk that is not armed, and none is armed then (`unarmed`, `cause`).
-    pub fn make<D: Disk>(
+    pub fn make<D: ReadDisk>(
         alloc: Global,
         disk: &mut D,
         number: u64,
@@ -145,7 +145,7 @@ impl Store {
     ///   accepted payload is no closed content; there are more than 256 sequences, or 1024 unacknowledged messages of
     ///   one or 4096 in all; a number is more than 1024 past its front (`none`, `found`).
     /// - Disk: not on a disk that is not armed (`unarmed`, `cause`).
-    pub fn mount<D: Disk>(alloc: Global, disk: &mut D) -> Result<Store, MountError>
+    pub fn mount<D: ReadDisk>(alloc: Global, disk: &mut D) -> Result<Store, MountError>
         ensures found { IsTrue D.tells → IfOk result (Finds (D.told disk.old).past (D.told disk.new).past) }
         ensures none { IsTrue D.tells → result ≡ Err IsNoJournal → IsNoNode (seen_of (D.told disk.old).past) }
         ensures up { IfOk result (λ store. store.journal.is_down ≡ false) }
@@ -181,7 +181,11 @@ impl Store {
     /// - Full: exactly where the bytes stand for a list whose journal would be longer than 268435456 (`refusals`,
     ///   `short`, `none_short`).
     /// - Disk: exactly where the fuse lies among the device calls (`cause`, `fuse`, `unarmed`).
-    pub fn import<D: Disk>(alloc: Global, disk: &mut D, bytes: &[u8]) -> Result<Store, ImportError>
+    pub fn import<D: ReadDisk>(
+        alloc: Global,
+        disk: &mut D,
+        bytes: &[u8],
+    ) -> Result<Store, ImportError>
         ensures imported { IfOk result (Imports D.tells bytes.now (D.told disk.new).past) }
         ensures none { result ≡ Err BytesAreNone → IsNoNodeBefore bytes.now }
 

@@ -5,7 +5,7 @@ ghost use Rattle.rm_disk.specs.MemDisk.{faults_of, past_of, spare_of};
 ghost use Rattle.rm_disk.specs.Spare.{Spends};
 
 use rm_base::{Failed, Memory};
-use rm_disk::{CrashDisk, Disk, MemDisk};
+use rm_disk::{CrashDisk, Disk, MemDisk, ReadDisk};
 use std::alloc::Global;
 
 /// A disk, and how many device calls are left up to the first that fails, where one is to.
@@ -78,6 +78,26 @@ impl Disk for Device {
 
     ghost spare = { λ d. spare_of d.disk };
 
+    fn reserve(&mut self, calls: u64, bytes: u64) -> Result<(), Memory> {
+        self.disk.reserve(calls, bytes)
+    }
+
+    fn write_at(&mut self, at: u64, bytes: &[u8]) -> Result<(), Failed> {
+        let len = self.disk.len()?;
+        if at > len {
+            return self.refused();
+        }
+        self.count();
+        self.disk.write_at(at, bytes)
+    }
+
+    fn sync(&mut self) -> Result<(), Failed> {
+        self.count();
+        self.disk.sync()
+    }
+}
+
+impl ReadDisk for Device {
     fn len(&mut self) -> Result<u64, Failed> {
         self.count();
         self.disk.len()
@@ -92,19 +112,6 @@ impl Disk for Device {
         self.disk.read(at, buf)
     }
 
-    fn reserve(&mut self, calls: u64, bytes: u64) -> Result<(), Memory> {
-        self.disk.reserve(calls, bytes)
-    }
-
-    fn write_at(&mut self, at: u64, bytes: &[u8]) -> Result<(), Failed> {
-        let len = self.disk.len()?;
-        if at > len {
-            return self.refused();
-        }
-        self.count();
-        self.disk.write_at(at, bytes)
-    }
-
     fn cut(&mut self, len: u64) -> Result<(), Failed> {
         let present = self.disk.len()?;
         if len > present {
@@ -112,10 +119,5 @@ impl Disk for Device {
         }
         self.count();
         self.disk.cut(len)
-    }
-
-    fn sync(&mut self) -> Result<(), Failed> {
-        self.count();
-        self.disk.sync()
     }
 }

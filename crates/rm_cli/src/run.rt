@@ -13,14 +13,14 @@ ghost use Rattle.rm_replay.specs.Shows.{IsFresh, scene_of};
 use http_endpoint::link::Link;
 use rm_base::wire::Wire;
 use rm_base::{Blob, Clock, Sink, Source};
-use rm_disk::{CrashDisk, Disk};
+use rm_disk::{CrashDisk, ReadDisk};
 use rm_host::{Host, is_of_node};
 use rm_replay::Stage;
 use std::alloc::Global;
 
 /// Does what the words say, those after the program's name, and answers the exit status. The commands of one node are
 /// done over the host, and leave the stage; all others do as `rm_command` says.
-pub fn run<S: Source, K: Sink, M: CrashDisk, W: Wire, D: Disk, L: Link, C: Clock>(
+pub fn run<S: Source, K: Sink, M: CrashDisk, W: Wire, D: ReadDisk, L: Link, C: Clock>(
     alloc: Global,
     words: &[Blob],
     input: &mut S,

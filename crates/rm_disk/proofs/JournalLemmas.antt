@@ -7,4 +7,5 @@ pub mod Places
 pub mod Refusals
 pub mod Granted
 pub mod Written
+pub mod Rows
 pub mod Before

@@ -4,11 +4,13 @@
 //! a journal and its disk have a list of entries, and contracts say what each call does to that list, and why it fails.
 
 mod block;
+pub mod carrying;
 pub mod error;
 pub mod journal;
 pub mod laws;
 mod place;
 mod scan;
 
+pub use carrying::carry;
 pub use error::JournalError;
 pub use journal::Journal;

@@ -12,7 +12,7 @@ pub mod mem;
 mod note;
 mod patch;
 
-pub use disk::{CrashDisk, Disk};
+pub use disk::{CrashDisk, Disk, ReadDisk};
 pub use mem::MemDisk;
 
 pub mod file;

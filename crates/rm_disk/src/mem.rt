@@ -8,7 +8,7 @@ ghost use Rattle.rm_disk.specs.Cause.{HasCause};
 ghost use Rattle.rm_disk.specs.Fuse.{Burns};
 ghost use Rattle.rm_disk.specs.Mem.{calls_of, used_by, content};
 
-use crate::disk::{CrashDisk, Disk};
+use crate::disk::{CrashDisk, Disk, ReadDisk};
 use crate::note::Note;
 use crate::patch::{overwrite, patch};
 use rm_base::{Failed, Memory};
@@ -21,7 +21,7 @@ use std::alloc::{AllocError, Global};
 /// field holds. So its memory grows with all that was written and not with the file, and neither a cut nor a crash
 /// gives any back; room for a byte is made three times, in the file, in what the last sync left and in the row of all
 /// writes. It is meant for disks that live as long as a test or a script.
-#[derive(Debug, Drop)]
+#[derive(Debug)]
 pub struct MemDisk {
     alloc: Global,
 
@@ -49,6 +49,25 @@ pub struct MemDisk {
     ghost room_wrote: { vec_len wrote + spare_bytes ≤ vec_capacity wrote },
     ghost room_file: { vec_len file + spare_bytes ≤ vec_capacity file },
     ghost room_synced: { vec_len file + spare_bytes ≤ vec_capacity synced },
+}
+
+impl Drop for MemDisk {
+    fn drop(self) {
+        let MemDisk {
+            alloc: _,
+            notes: _,
+            wrote: _,
+            file: _,
+            synced: _,
+            low: _,
+            high: _,
+            ranges: _,
+            fuse: _,
+            faults: _,
+            spare_calls: _,
+            spare_bytes: _,
+        } = self;
+    }
 }
 
 /// One device call: whether it goes well.
@@ -158,18 +177,6 @@ impl Disk for MemDisk {
 
     ghost spare = { spare_of };
 
-    fn len(&mut self) -> Result<u64, Failed> {
-        burn(&mut self.fuse, &mut self.faults)?;
-        Ok(self.file.len() as u64)
-    }
-
-    fn read(&mut self, at: u64, buf: &mut [u8]) -> Result<(), Failed> {
-        burn(&mut self.fuse, &mut self.faults)?;
-        let at = at as usize;
-        buf.copy_from_slice(&self.file[at..at + buf.len()]);
-        Ok(())
-    }
-
     fn reserve(&mut self, calls: u64, bytes: u64) -> Result<(), Memory> {
         let calls = self.spare_calls.max(calls as usize);
         let bytes = self.spare_bytes.max(bytes as usize);
@@ -201,19 +208,6 @@ impl Disk for MemDisk {
         Ok(())
     }
 
-    fn cut(&mut self, len: u64) -> Result<(), Failed> {
-        let len = len as usize;
-        self.spare_calls -= 1;
-        self.low = self.low.min(len);
-        if let Err(failed) = burn(&mut self.fuse, &mut self.faults) {
-            push(&mut self.notes, Note::FailedCut { len });
-            return Err(failed);
-        }
-        push(&mut self.notes, Note::Cut { len });
-        self.file.truncate(len);
-        Ok(())
-    }
-
     fn sync(&mut self) -> Result<(), Failed> {
         self.spare_calls -= 1;
         if let Err(failed) = burn(&mut self.fuse, &mut self.faults) {
@@ -225,6 +219,33 @@ impl Disk for MemDisk {
         self.ranges.clear();
         self.low = self.file.len();
         self.high = self.file.len();
+        Ok(())
+    }
+}
+
+impl ReadDisk for MemDisk {
+    fn len(&mut self) -> Result<u64, Failed> {
+        burn(&mut self.fuse, &mut self.faults)?;
+        Ok(self.file.len() as u64)
+    }
+
+    fn read(&mut self, at: u64, buf: &mut [u8]) -> Result<(), Failed> {
+        burn(&mut self.fuse, &mut self.faults)?;
+        let at = at as usize;
+        buf.copy_from_slice(&self.file[at..at + buf.len()]);
+        Ok(())
+    }
+
+    fn cut(&mut self, len: u64) -> Result<(), Failed> {
+        let len = len as usize;
+        self.spare_calls -= 1;
+        self.low = self.low.min(len);
+        if let Err(failed) = burn(&mut self.fuse, &mut self.faults) {
+            push(&mut self.notes, Note::FailedCut { len });
+            return Err(failed);
+        }
+        push(&mut self.notes, Note::Cut { len });
+        self.file.truncate(len);
         Ok(())
     }
 }

@@ -37,14 +37,14 @@ use node_laws::answers::Wish;
 use node_laws::laws::there_are_own_terms;
 use record_batch::Via;
 use rm_base::{Blob, Connection, Lapse, Uri};
-use rm_disk::Disk;
+use rm_disk::{Disk, ReadDisk};
 use rm_node::{Made, Node, NodeError, Outs, Sent};
 use rm_serve::laws::a_node_stays_up;
 use rm_serve::{Posted, Served, post_due, post_due11, serve_one, serve_one11};
 use std::alloc::Global;
 
 /// Makes a node on the disk.
-pub(crate) fn make_node<D: Disk, L: Link, C>(
+pub(crate) fn make_node<D: ReadDisk, L: Link, C>(
     alloc: Global,
     host: &mut Host<D, L, C>,
     number: u64,
@@ -64,7 +64,7 @@ pub(crate) fn make_node<D: Disk, L: Link, C>(
 }
 
 /// Makes the disk that of the node whose journal of the layout before these bytes are.
-pub(crate) fn import_node<D: Disk, L: Link, C>(
+pub(crate) fn import_node<D: ReadDisk, L: Link, C>(
     alloc: Global,
     host: &mut Host<D, L, C>,
     bytes: &[u8],
@@ -82,7 +82,7 @@ pub(crate) fn import_node<D: Disk, L: Link, C>(
 }
 
 /// Finds the node that the disk holds.
-pub(crate) fn mount<D: Disk, L: Link, C>(
+pub(crate) fn mount<D: ReadDisk, L: Link, C>(
     alloc: Global,
     host: &mut Host<D, L, C>,
 ) -> Result<Node, End>

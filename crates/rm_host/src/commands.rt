@@ -22,7 +22,7 @@ use http_endpoint::link::Link;
 use node_laws::answers::Cause;
 use node_tables::Tables;
 use rm_base::{Blob, Clock, Memory, Uri, push_decimal};
-use rm_disk::Disk;
+use rm_disk::{Disk, ReadDisk};
 use rm_node::{Node, Outs};
 use rm_serve::Posted;
 use rm_sides::destination::Incoming;
@@ -32,7 +32,7 @@ use std::alloc::Global;
 /// - `makes`: it prints `made` where the disk had no bytes, and then it has a node of this number and address; it
 ///   refuses a disk exactly where that has bytes, which stay. Where memory was wanting the disk is as it was or has an
 ///   empty journal, or the node was made already. The link is asked for nothing.
-pub fn make<D: Disk, L: Link, C: Clock>(
+pub fn make<D: ReadDisk, L: Link, C: Clock>(
     alloc: Global,
     host: &mut Host<D, L, C>,
     number: u64,
@@ -51,7 +51,7 @@ pub fn make<D: Disk, L: Link, C: Clock>(
 }
 
 /// Refuses a disk that has bytes.
-pub(crate) fn check_empty<D: Disk, L: Link, C>(host: &mut Host<D, L, C>) -> Result<(), End>
+pub(crate) fn check_empty<D: ReadDisk, L: Link, C>(host: &mut Host<D, L, C>) -> Result<(), End>
     ensures empty { IsTrue D.tells → OnOk result (seen_of (D.told host.old.disk).past ≡ []) }
     ensures full { IsTrue D.tells → result ≡ Err End.NotEmpty → seen_of (D.told host.old.disk).past ≢ [] }
     ensures which { IfErr result (λ e. (e ≡ End.DiskFault) ⊎ (e ≡ End.NotEmpty)) }
@@ -71,7 +71,7 @@ pub(crate) fn check_empty<D: Disk, L: Link, C>(host: &mut Host<D, L, C>) -> Resu
 /// - `does`: one call of the node that the disk had, at the moment that the clock shows; what that hands out is posted
 ///   in one row. It prints how many packets were answered and how many missed, where each found a connection, and ends
 ///   with 7 otherwise.
-pub fn push<D: Disk, L: Link, C: Clock>(
+pub fn push<D: ReadDisk, L: Link, C: Clock>(
     alloc: Global,
     host: &mut Host<D, L, C>,
 ) -> Result<Blob, End>
@@ -90,7 +90,7 @@ pub fn push<D: Disk, L: Link, C: Clock>(
 }
 
 /// A sequence is closed.
-pub fn close<D: Disk, L: Link, C: Clock>(
+pub fn close<D: ReadDisk, L: Link, C: Clock>(
     alloc: Global,
     host: &mut Host<D, L, C>,
     seq: u32,
@@ -110,7 +110,7 @@ pub fn close<D: Disk, L: Link, C: Clock>(
 }
 
 /// A sequence is ended.
-pub fn end<D: Disk, L: Link, C: Clock>(
+pub fn end<D: ReadDisk, L: Link, C: Clock>(
     alloc: Global,
     host: &mut Host<D, L, C>,
     seq: u32,
@@ -164,7 +164,7 @@ fn posted_text(alloc: Global, posted: Posted) -> Result<Blob, Memory>
 /// The items in the inbox of a sequence that receives, a line each.
 /// - `does`: no call of the node is made. It prints the payloads that aren't gone, each with its number, and how many
 ///   items the inbox has, the gone ones too.
-pub fn inbox<D: Disk, L: Link, C: Clock>(
+pub fn inbox<D: ReadDisk, L: Link, C: Clock>(
     alloc: Global,
     host: &mut Host<D, L, C>,
     seq: u32,
@@ -216,7 +216,7 @@ fn items_text(alloc: Global, seq: u32, incoming: &Incoming) -> Result<Blob, Memo
 ///   since the node was found leaves its batches in the old bank or those of the snapshot in the new one. It refuses
 ///   with StoreFull, and the disk has what was found then; after want of memory the disk is as it reads, or was written
 ///   anew already.
-pub fn compact<D: Disk, L: Link, C: Clock>(
+pub fn compact<D: ReadDisk, L: Link, C: Clock>(
     alloc: Global,
     host: &mut Host<D, L, C>,
 ) -> Result<Blob, End>

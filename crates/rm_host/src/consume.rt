@@ -19,7 +19,7 @@ use node_laws::answers::Cause;
 use node_tables::Tables;
 use node_tables::laws::an_incoming_sequence_is_as_recorded;
 use rm_base::{Blob, Clock, Memory, Sink, SinkError, push_decimal, write_all};
-use rm_disk::Disk;
+use rm_disk::ReadDisk;
 use rm_sides::destination::Incoming;
 use std::alloc::Global;
 
@@ -29,7 +29,7 @@ use std::alloc::Global;
 /// - `consumes`: where a cursor is printed, all items past the cursor of the node that was found, up to the one that
 ///   was asked for, had been written, and then the record was. Where it ends before that, nothing was recorded, or the
 ///   items had all been printed.
-pub fn consume<K: Sink, D: Disk, L: Link, C: Clock>(
+pub fn consume<K: Sink, D: ReadDisk, L: Link, C: Clock>(
     alloc: Global,
     host: &mut Host<D, L, C>,
     out: &mut K,

@@ -12,7 +12,7 @@ use crate::host::Host;
 use http_endpoint::link::Link;
 use rm_base::limits::JOURNAL_BYTES;
 use rm_base::{Blob, Clock, Memory, ReadError, Source, push_decimal, read_up_to};
-use rm_disk::Disk;
+use rm_disk::ReadDisk;
 use std::alloc::Global;
 
 /// Reads a journal of the layout before, to the end of the input, and makes an empty disk that of its node. After a
@@ -23,7 +23,7 @@ use std::alloc::Global;
 ///   a disk that tells was empty, and has the batches now, in the first bank and for good. It refuses where the disk
 ///   had bytes or the journal would be longer than 268435456, and ends with 11 where the input is no node's journal.
 /// - `spared`: a disk that tells and had a byte has made no call that changes it.
-pub fn import<D: Disk, L: Link, C: Clock, S: Source>(
+pub fn import<D: ReadDisk, L: Link, C: Clock, S: Source>(
     alloc: Global,
     host: &mut Host<D, L, C>,
     input: &mut S,
@@ -43,7 +43,7 @@ pub fn import<D: Disk, L: Link, C: Clock, S: Source>(
 }
 
 // Makes an empty disk that of the node whose journal these bytes are.
-fn import_bytes<D: Disk, L: Link, C>(
+fn import_bytes<D: ReadDisk, L: Link, C>(
     alloc: Global,
     host: &mut Host<D, L, C>,
     bytes: &[u8],

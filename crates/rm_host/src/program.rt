@@ -18,7 +18,7 @@ use rm_base::words::{texts_given, words_behind};
 use rm_base::{
     Blob, Clock, Memory, Sink, SinkError, Source, StdClock, StdSink, StdSource, write_all,
 };
-use rm_disk::Disk;
+use rm_disk::ReadDisk;
 use rm_disk::file::{Fault as DiskFault, FileDisk, NAME};
 use rm_script::report::exits;
 use std::alloc::Global;
@@ -38,7 +38,7 @@ use std::process::ExitCode;
 ///   268435456 were. There is no status but 0, 2 and 4 to 11.
 /// - `complete`: where no count of faults rises, 0, 2, 8, 9, 10 or 11 comes.
 /// - `lost`: over a sound link 7 comes only where an accept or a dial found no connection left, and none is left then.
-pub fn run<S: Source, K: Sink, D: Disk, L: Link, C: Clock>(
+pub fn run<S: Source, K: Sink, D: ReadDisk, L: Link, C: Clock>(
     alloc: Global,
     words: &[Blob],
     input: &mut S,
@@ -77,7 +77,7 @@ fn print_text<K: Sink>(out: &mut K, text: &[u8]) -> u8
 }
 
 // Does what the words say.
-fn obey<S: Source, K: Sink, D: Disk, L: Link, C: Clock>(
+fn obey<S: Source, K: Sink, D: ReadDisk, L: Link, C: Clock>(
     alloc: Global,
     words: &[Blob],
     input: &mut S,
@@ -95,7 +95,7 @@ fn obey<S: Source, K: Sink, D: Disk, L: Link, C: Clock>(
 }
 
 // Does what is asked for.
-fn perform<S: Source, K: Sink, D: Disk, L: Link, C: Clock>(
+fn perform<S: Source, K: Sink, D: ReadDisk, L: Link, C: Clock>(
     alloc: Global,
     input: &mut S,
     out: &mut K,

@@ -22,7 +22,7 @@ use http_endpoint::link::Link;
 use node_tables::{Peer, Tables};
 use rm_base::limits::PAYLOAD_BYTES;
 use rm_base::{Blob, Clock, Memory, ReadError, Source, Uri, push_decimal, read_up_to};
-use rm_disk::Disk;
+use rm_disk::{Disk, ReadDisk};
 use rm_node::{Node, Outs};
 use rm_sides::source::OutPhase;
 use std::alloc::Global;
@@ -34,7 +34,7 @@ use std::alloc::Global;
 ///   the message hands out after it. Where a packet of the first found no connection it sends only on a sequence that
 ///   is open. It prints the sequence, the number that the payload got, and `yes` exactly where that number is
 ///   acknowledged at the end.
-pub fn send<D: Disk, L: Link, C: Clock, S: Source>(
+pub fn send<D: ReadDisk, L: Link, C: Clock, S: Source>(
     alloc: Global,
     host: &mut Host<D, L, C>,
     input: &mut S,
@@ -54,7 +54,7 @@ pub fn send<D: Disk, L: Link, C: Clock, S: Source>(
 }
 
 // Sends a payload to an address.
-fn send_payload<D: Disk, L: Link, C: Clock>(
+fn send_payload<D: ReadDisk, L: Link, C: Clock>(
     alloc: Global,
     host: &mut Host<D, L, C>,
     to: Uri,

@@ -17,7 +17,7 @@ use crate::words::Service;
 use http_endpoint::Media;
 use http_endpoint::link::Link;
 use rm_base::{Blob, Clock, Memory, push_decimal};
-use rm_disk::Disk;
+use rm_disk::{Disk, ReadDisk};
 use rm_node::{Node, Outs};
 use rm_serve::ConnEnd;
 use std::alloc::Global;
@@ -35,7 +35,7 @@ pub struct Tally {
 ///   only where it ends before: a port that can't be listened to, no connection, a call of the node that fails. After
 ///   each comes one tick, and the packets of both are posted in one row.
 /// - `tally`: where it ends well it tells of as many connections as it was to serve, each served well or given up.
-pub fn serve<D: Disk, L: Link, C: Clock>(
+pub fn serve<D: ReadDisk, L: Link, C: Clock>(
     alloc: Global,
     host: &mut Host<D, L, C>,
     service: Service,
@@ -84,7 +84,7 @@ fn counted(tally: Tally, finish: ConnEnd) -> Tally
 }
 
 // Mounts the node, which announces so, and listens.
-fn open<D: Disk, L: Link, C>(
+fn open<D: ReadDisk, L: Link, C>(
     alloc: Global,
     host: &mut Host<D, L, C>,
     service: Service,

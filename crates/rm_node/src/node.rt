@@ -29,7 +29,7 @@ use node_store::{ImportError, MountError, Store, StoreError};
 use node_tables::Tables;
 use node_waits::keys::fill;
 use rm_base::{Behaviour, Uri};
-use rm_disk::Disk;
+use rm_disk::ReadDisk;
 use rm_protocol::laws::what_waits_stays_exact;
 use std::alloc::Global;
 use std::marker::Model;
@@ -62,7 +62,7 @@ impl Node {
     /// Makes a disk that of a node with this number and address. What it held is lost; after want of memory the disk is
     /// as it was or has an empty journal, and after a fault of the disk it holds anything.
     /// - Disk: not on a disk that is not armed, and none is armed then (`unarmed`, `cause`).
-    pub fn make<D: Disk>(
+    pub fn make<D: ReadDisk>(
         alloc: Global,
         disk: &mut D,
         number: u64,
@@ -95,7 +95,7 @@ impl Node {
     /// no message waits.
     /// - NotAJournal: by the tests of `Store::mount` (`none`, `found`).
     /// - Disk: not on a disk that is not armed (`unarmed`, `cause`).
-    pub fn mount<D: Disk>(alloc: Global, disk: &mut D) -> Result<Node, MountError>
+    pub fn mount<D: ReadDisk>(alloc: Global, disk: &mut D) -> Result<Node, MountError>
         ensures found { IsTrue D.tells →
             IfOk result (λ node. Finds (D.told disk.old).past (D.told disk.new).past node.stored) }
         ensures none { IsTrue D.tells → result ≡ Err IsNoJournal → IsNoNode (seen_of (D.told disk.old).past) }
@@ -133,7 +133,11 @@ impl Node {
     /// - `imported`, `kept`: on any disk the node is the one of those batches, with what a mount would give it; a disk
     ///   that tells has them, for good.
     /// - Disk: exactly where the fuse lies among the device calls (`cause`, `fuse`, `unarmed`).
-    pub fn import<D: Disk>(alloc: Global, disk: &mut D, bytes: &[u8]) -> Result<Node, ImportError>
+    pub fn import<D: ReadDisk>(
+        alloc: Global,
+        disk: &mut D,
+        bytes: &[u8],
+    ) -> Result<Node, ImportError>
         ensures imported { IfOk result (λ node. Imports D.tells bytes.now (D.told disk.new).past node.stored) }
         ensures none { result ≡ Err BytesAreNone → IsNoNodeBefore bytes.now }
 

@@ -4,7 +4,7 @@ ghost use Rattle.std.specs.Prelude.{◌≡◌, false};
 use node_store::MountError;
 use node_tables::Tables;
 use rm_base::{Blob, Memory, push_decimal};
-use rm_disk::Disk;
+use rm_disk::ReadDisk;
 use rm_host::End;
 use rm_node::Node;
 use rm_script::report::{push_receiving, push_sending};
@@ -14,7 +14,7 @@ use std::alloc::Global;
 const TURNS: u32 = 64;
 
 /// The node that a disk holds: a line of it, and one for each of its sequences, as they stand at a moment.
-pub fn show<D: Disk>(alloc: Global, disk: &mut D, now: u64) -> Result<Blob, End>
+pub fn show<D: ReadDisk>(alloc: Global, disk: &mut D, now: u64) -> Result<Blob, End>
     requires silent { D.tells ≡ false }
 {
     let node = mounted(alloc, disk)?;
@@ -27,7 +27,7 @@ pub fn show<D: Disk>(alloc: Global, disk: &mut D, now: u64) -> Result<Blob, End>
 // The node that a disk holds, which another process may be writing. An entry that is added between the look at the
 // length and the end of the read leaves an open gate at the end of what is read, and a list that is written anew may be
 // put where the one stood that is read. So what is no journal is read again, until it is none twice at one length.
-fn mounted<D: Disk>(alloc: Global, disk: &mut D) -> Result<Node, End>
+fn mounted<D: ReadDisk>(alloc: Global, disk: &mut D) -> Result<Node, End>
     requires silent { D.tells ≡ false }
 {
     let mut none_at = None;

@@ -8,16 +8,16 @@ use Rattle.std.proofs.lemmas.Bool.{false≢true, cases_lt, cases_eq, lt-leb}
 use Rattle.std.specs.Int.{w32, to_be_bytes}
 use Rattle.std.proofs.Math.Seq.{get_or-append_seam}
 use Rattle.std.proofs.lemmas.List.{ext_get_or, take_all, take-take, take-append-le, take_at, drop_at}
-use Rattle.std.proofs.lemmas.List.{get_or_append_left}
+use Rattle.std.proofs.lemmas.List.{get_or_append_left, append-nil}
 use Rattle.rm_disk.specs.Call.{Call, is_within, Wrote, WriteFailed, CutTo, Synced, SyncFailed, State, is_free}
 use Rattle.rm_disk.specs.Call.{overwritten, after, state, seen_of, settled}
 use Rattle.rm_disk.specs.Image.{IsImage, MayLeave, OnlyLeaves}
 use Rattle.rm_disk.specs.ImageLemmas.{reads_as_image, settled_only, synced_only, only_from, only_more}
 use Rattle.rm_disk.specs.RangeLemmas.{within_before, within_behind}
 use Rattle.rm_disk.specs.Journal.Entries.{longest, block, Bank, first_bank, first_bytes, IsFront, EndsBlocks, StandsAt}
-use Rattle.rm_disk.specs.Journal.Entries.{StandsForEither}
+use Rattle.rm_disk.specs.Journal.Entries.{StandsForEither, StandsForOneOf, AllFit, list_of}
 use Rattle.rm_disk.specs.Journal.Journal.{with_block}
-use Rattle.rm_disk.specs.Journal.EntryLemmas.{blocks-push, fit_push, stands_at-bytes_of}
+use Rattle.rm_disk.specs.Journal.EntryLemmas.{ends_before, fit_cons, stands_at-bytes_of}
 use Rattle.rm_disk.specs.Journal.Scan.{WritesBlock}
 use Rattle.rm_disk.proofs.JournalLemmas.Parts.{front_stays, stands_split, last_of, IsOff, behind_off, wrote_off}
 use Rattle.rm_disk.proofs.JournalLemmas.Parts.{failed_off}
@@ -26,16 +26,6 @@ use Rattle.rm_disk.proofs.JournalLemmas.Places.{gate_within}
 -- What stands behind the gate of an entry: its length, the entry and the next closed gate.
 abbrev pub body_of : List ℕ → List ℕ
 body_of entry = to_be_bytes w32 (length entry) ++ entry ++ 0 ∷ []
-
--- An open gate and the body of an entry behind the blocks are the blocks with that entry.
-blocks-push_gate : (entries : List (List ℕ)) (entry rest : List ℕ)
-    → flat_map block entries ++ 1 ∷ (body_of entry ++ rest) ≡ flat_map block (entries ++ entry ∷ []) ++ 0 ∷ rest
-blocks-push_gate entries entry rest =
-    let number = to_be_bytes w32 (length entry) in
-    let blocks = flat_map block entries in
-    ap (λ (l : List ℕ). blocks ++ 1 ∷ l) (append_assoc (number ++ entry) (0 ∷ []) rest)
-    ∙ sym (append_assoc blocks (block entry) (0 ∷ rest))
-    ∙ ap (λ (l : List ℕ). l ++ 0 ∷ rest) (sym (blocks-push entries entry))
 
 -- the place where two lists differ alone
 other_places : (before behind : List ℕ) (x y i : ℕ) → i ≢ length before
@@ -164,15 +154,17 @@ module _ (past : List Call) (bank : Bank) (entries : List (List ℕ)) (images : 
   n : ℕ
   n = length before + 1
 
-  module _ (entry : List ℕ) (short : length entry ≤ longest) where
+  -- Whatever is written behind the closed gate, and whatever list the bytes with the gate open stand for then: the one
+  -- byte decides between the two.
+  module _ (body : List ℕ) (all : List (List ℕ))
+      (opens : StandsAt bank all (before ++ 1 ∷ (body ++ drop (n + length body) (seen_of past)))) where
     rest : List ℕ
-    rest = body_of entry ++ drop (n + length (body_of entry)) (seen_of past)
+    rest = body ++ drop (n + length body) (seen_of past)
 
-    -- the bytes once the block stands behind the closed gate
-    body_there : seen_of (Wrote n (body_of entry) ∷ past) ≡ before ++ gate ∷ rest
+    -- the bytes once the body stands behind the closed gate
+    body_there : seen_of (Wrote n body ∷ past) ≡ before ++ gate ∷ rest
     unfolding n rest
     body_there =
-        let body = body_of entry in
         let after = drop (n + length body) (seen_of past) in
         let first : take n (seen_of past) ≡ before ++ gate ∷ [] =
         ap (λ (l : List ℕ). take n l) (split ∙ sym (append_assoc before (gate ∷ []) reads.ends.behind))
@@ -192,27 +184,17 @@ module _ (past : List Call) (bank : Bank) (entries : List (List ℕ)) (images : 
         ∙ drop_at front (flat_map block entries ++ x ∷ rest) bank.start size
 
     -- whatever byte the gate is, the list is the old one or the new one
-    with_entry : StandsAt bank (entries ++ entry ∷ []) (before ++ 1 ∷ rest)
+    opened_list : StandsAt bank all (before ++ 1 ∷ rest)
     unfolding rest
-    with_entry = record {
-      front = front_there 1;
-      ends = record {
-        fit = fit_push entries entry short reads.ends.fit;
-        gate = 0;
-        behind = drop (n + length (body_of entry)) (seen_of past);
-        closed = λ e. omega (arith, e);
-        is = list_there 1 ∙ blocks-push_gate entries entry (drop (n + length (body_of entry)) (seen_of past));
-      };
-    }
+    opened_list = opens
 
     P : List ℕ → Type 0
-    P = StandsForEither bank entries entry
+    P = StandsForOneOf bank entries bank all
 
     either : (x : ℕ) → P (before ++ x ∷ rest)
     unfolding P
     either x = elim (cases_eq x 1) [
-      | inl opens ↦ inr (subst (λ (y : ℕ). StandsAt bank (entries ++ entry ∷ []) (before ++ y ∷ rest))
-          (sym opens) with_entry)
+      | inl opens ↦ inr (subst (λ (y : ℕ). StandsAt bank all (before ++ y ∷ rest)) (sym opens) opened_list)
       | inr closed ↦ inl (record {
         front = front_there x;
         ends = record {
@@ -225,10 +207,10 @@ module _ (past : List Call) (bank : Bank) (entries : List (List ℕ)) (images : 
       })
     ]
 
-    there : state (Synced ∷ Wrote n (body_of entry) ∷ past) ≡ settled (before ++ gate ∷ rest)
+    there : state (Synced ∷ Wrote n body ∷ past) ≡ settled (before ++ gate ∷ rest)
     there = ap settled body_there
 
-    -- a block that is torn behind the gate
+    -- what is torn behind the gate
     torn_off : (count : ℕ) → IsOff bank (last_of bank entries) n count
     unfolding n
     torn_off count = behind_off bank (last_of bank entries) n count reads.front.behind (omega arith)
@@ -238,60 +220,59 @@ module _ (past : List Call) (bank : Bank) (entries : List (List ℕ)) (images : 
     unfolding P
     start = only_from past P λ bytes may. inl (images bytes may)
 
-    first_failed : OnlyLeaves past (WriteFailed n (length (body_of entry)) ∷ past) P
+    first_failed : OnlyLeaves past (WriteFailed n (length body) ∷ past) P
     unfolding P
     first_failed = only_more past past _ P start λ bytes may. inl
-        (failed_off past bank entries images n (length (body_of entry)) (torn_off (length (body_of entry))) bytes may)
+        (failed_off past bank entries images n (length body) (torn_off (length body)) bytes may)
 
-    torn : (bytes : List ℕ) → MayLeave (Wrote n (body_of entry) ∷ past) bytes → P bytes
+    torn : (bytes : List ℕ) → MayLeave (Wrote n body ∷ past) bytes → P bytes
     unfolding P
-    torn bytes may = inl
-        (wrote_off past bank entries images n (body_of entry) (torn_off (length (body_of entry))) bytes may)
+    torn bytes may = inl (wrote_off past bank entries images n body (torn_off (length body)) bytes may)
 
-    first : OnlyLeaves past (Wrote n (body_of entry) ∷ past) P
+    first : OnlyLeaves past (Wrote n body ∷ past) P
     first = only_more past past _ P start torn
 
-    first_unsynced : OnlyLeaves past (SyncFailed ∷ Wrote n (body_of entry) ∷ past) P
+    first_unsynced : OnlyLeaves past (SyncFailed ∷ Wrote n body ∷ past) P
     first_unsynced = only_more past _ SyncFailed P first torn
 
-    staged_only : OnlyLeaves past (Synced ∷ Wrote n (body_of entry) ∷ past) P
+    staged_only : OnlyLeaves past (Synced ∷ Wrote n body ∷ past) P
     staged_only = only_more past _ Synced P first λ bytes may.
         subst P (sym (settled_only (before ++ gate ∷ rest) bytes
         (subst (λ s. IsImage s bytes) there may))) (either gate)
 
-    second_failed : OnlyLeaves past (WriteFailed (length before) 1 ∷ Synced ∷ Wrote n (body_of entry) ∷ past) P
+    second_failed : OnlyLeaves past (WriteFailed (length before) 1 ∷ Synced ∷ Wrote n body ∷ past) P
     second_failed = only_more past _ _ P staged_only λ bytes may.
         subst P (sym (torn_gate before gate rest _
-        (gate_failed before gate rest (Synced ∷ Wrote n (body_of entry) ∷ past) there) bytes may)) (either _)
+        (gate_failed before gate rest (Synced ∷ Wrote n body ∷ past) there) bytes may)) (either _)
 
     second_bytes : (bytes : List ℕ)
-        → MayLeave (Wrote (length before) (1 ∷ []) ∷ Synced ∷ Wrote n (body_of entry) ∷ past) bytes → P bytes
+        → MayLeave (Wrote (length before) (1 ∷ []) ∷ Synced ∷ Wrote n body ∷ past) bytes → P bytes
     second_bytes bytes may =
         subst P (sym (torn_gate before gate rest _
-        (gate_wrote before gate rest (Synced ∷ Wrote n (body_of entry) ∷ past) there 1) bytes may)) (either _)
+        (gate_wrote before gate rest (Synced ∷ Wrote n body ∷ past) there 1) bytes may)) (either _)
 
-    second : OnlyLeaves past (Wrote (length before) (1 ∷ []) ∷ Synced ∷ Wrote n (body_of entry) ∷ past) P
+    second : OnlyLeaves past (Wrote (length before) (1 ∷ []) ∷ Synced ∷ Wrote n body ∷ past) P
     second = only_more past _ _ P staged_only second_bytes
 
     second_unsynced : OnlyLeaves past
-        (SyncFailed ∷ Wrote (length before) (1 ∷ []) ∷ Synced ∷ Wrote n (body_of entry) ∷ past) P
+        (SyncFailed ∷ Wrote (length before) (1 ∷ []) ∷ Synced ∷ Wrote n body ∷ past) P
     second_unsynced = only_more past _ SyncFailed P second second_bytes
 
-    -- once all is synced, the entry is there
+    -- once all is synced, the new list is there
     all_there : (bytes : List ℕ)
-        → MayLeave (Synced ∷ Wrote (length before) (1 ∷ []) ∷ Synced ∷ Wrote n (body_of entry) ∷ past) bytes
-        → StandsAt bank (entries ++ entry ∷ []) bytes
+        → MayLeave (Synced ∷ Wrote (length before) (1 ∷ []) ∷ Synced ∷ Wrote n body ∷ past) bytes
+        → StandsAt bank all bytes
     all_there bytes may =
-        let is = synced_only (Wrote (length before) (1 ∷ []) ∷ Synced ∷ Wrote n (body_of entry) ∷ past) bytes may in
+        let is = synced_only (Wrote (length before) (1 ∷ []) ∷ Synced ∷ Wrote n body ∷ past) bytes may in
         let over = ap (λ s. overwritten s.seen (length before) (1 ∷ [])) there ∙ gate_over before gate rest 1 in
-        subst (StandsAt bank (entries ++ entry ∷ [])) (sym (is ∙ over)) with_entry
+        subst (StandsAt bank all) (sym (is ∙ over)) opened_list
 
     all_only : OnlyLeaves past
-        (Synced ∷ Wrote (length before) (1 ∷ []) ∷ Synced ∷ Wrote n (body_of entry) ∷ past) P
+        (Synced ∷ Wrote (length before) (1 ∷ []) ∷ Synced ∷ Wrote n body ∷ past) P
     unfolding P
     all_only = only_more past _ Synced P second λ bytes may. inr (all_there bytes may)
 
-    moments : (new : List Call) (all_well : Bool) → WritesBlock (length before) (body_of entry) past new all_well
+    moments : (new : List Call) (all_well : Bool) → WritesBlock (length before) body past new all_well
         → OnlyLeaves past new P
     unfolding n
     moments new true calls = subst (λ l. OnlyLeaves past l P) (sym calls) all_only
@@ -300,10 +281,100 @@ module _ (past : List Call) (bank : Bank) (entries : List (List ℕ)) (images : 
     moments new false (inr (inr (inl calls))) = subst (λ l. OnlyLeaves past l P) (sym calls) second_failed
     moments new false (inr (inr (inr calls))) = subst (λ l. OnlyLeaves past l P) (sym calls) second_unsynced
 
-    done : (new : List Call) → WritesBlock (length before) (body_of entry) past new true → (bytes : List ℕ)
-        → MayLeave new bytes → StandsAt bank (entries ++ entry ∷ []) bytes
+    done : (new : List Call) → WritesBlock (length before) body past new true → (bytes : List ℕ)
+        → MayLeave new bytes → StandsAt bank all bytes
     unfolding n
     done new calls bytes may = all_there bytes (subst (λ l. MayLeave l bytes) calls may)
+
+  -- the bytes with the open gate and the body written over those that stood there
+  opens_over : (body : List ℕ) → overwritten (seen_of past) (length before) (1 ∷ body)
+      ≡ before ++ 1 ∷ (body ++ drop (n + length body) (seen_of past))
+  unfolding n
+  opens_over body =
+      let tail = drop (length before + 1 + length body) (seen_of past) in
+      ap (λ (l : List ℕ). l ++ (1 ∷ body) ++ drop (length before + length (1 ∷ body)) (seen_of past))
+      (ap (λ (l : List ℕ). take (length before) l) split
+      ∙ take_at before (gate ∷ reads.ends.behind) (length before) refl)
+      ∙ ap (λ (k : ℕ). before ++ (1 ∷ body) ++ drop k (seen_of past)) {y = length before + 1 + length body}
+      (omega arith)
+      ∙ append_assoc before (1 ∷ body) tail
+
+  -- where that is a row of blocks and a closed gate, the list has these entries more
+  row_opens : (added : List (List ℕ)) (body : List ℕ) → AllFit added → 1 ∷ body ≡ list_of added
+      → StandsAt bank (entries ++ added) (before ++ 1 ∷ (body ++ drop (n + length body) (seen_of past)))
+  unfolding before
+  row_opens added body fit is =
+      let tail = drop (n + length body) (seen_of past) in
+      let list : EndsBlocks added (1 ∷ (body ++ tail)) = record {
+        fit = fit;
+        gate = 0;
+        behind = tail;
+        closed = λ e. omega (arith, e);
+        is = ap (λ (l : List ℕ). l ++ tail) is ∙ append_assoc (flat_map block added) (0 ∷ []) tail;
+      } in
+      record {
+        front = front_before bank (front ++ flat_map block entries) (gate ∷ reads.ends.behind) (1 ∷ (body ++ tail))
+            (omega (arith, ends_at, reads.front.behind)) (subst (IsFront bank) split reads.front);
+        ends = subst (EndsBlocks (entries ++ added))
+            (sym (ap (λ (l : List ℕ). drop bank.start l)
+            (append_assoc front (flat_map block entries) (1 ∷ (body ++ tail)))
+            ∙ drop_at front (flat_map block entries ++ 1 ∷ (body ++ tail)) bank.start size))
+            (ends_before entries added (1 ∷ (body ++ tail)) reads.ends.fit list);
+      }
+
+-- a disk that has these entries in this bank, as it reads and after any crash now
+abbrev StandsFirm : List Call → Bank → List (List ℕ) → Type 0
+StandsFirm past bank entries = (bytes : List ℕ) → MayLeave past bytes → StandsAt bank entries bytes
+
+-- Something is written behind the closed gate, and then the gate is opened: a crash at any moment of the four calls, or
+-- of those up to the first that failed, leaves the old list, or the one for which the bytes with all written stand.
+pub gate_moments : (past : List Call) (bank : Bank) (entries all : List (List ℕ)) → StandsFirm past bank entries
+    → (body : List ℕ) (end : ℕ) → end ≡ bank.start + length (flat_map block entries)
+    → StandsAt bank all (overwritten (seen_of past) end (1 ∷ body)) → (new : List Call) (all_well : Bool)
+    → WritesBlock end body past new all_well → OnlyLeaves past new (StandsForOneOf bank entries bank all)
+unfolding P
+gate_moments past bank entries all images body end e opens new all_well calls =
+    let at = e ∙ sym (ends_at past bank entries images) in
+    moments past bank entries images body all
+    (subst (StandsAt bank all) (opens_over past bank entries images body)
+    (subst (λ (k : ℕ). StandsAt bank all (overwritten (seen_of past) k (1 ∷ body))) at opens)) new all_well
+    (subst (λ (k : ℕ). WritesBlock k body past new all_well) at calls)
+
+-- After all four each image stands for that list.
+pub gate_done : (past : List Call) (bank : Bank) (entries all : List (List ℕ)) → StandsFirm past bank entries
+    → (body : List ℕ) (end : ℕ) → end ≡ bank.start + length (flat_map block entries)
+    → StandsAt bank all (overwritten (seen_of past) end (1 ∷ body)) → (new : List Call) (all_well : Bool)
+    → all_well ≡ true → WritesBlock end body past new all_well → (bytes : List ℕ) → MayLeave new bytes
+    → StandsAt bank all bytes
+gate_done past bank entries all images body end e opens new true well calls bytes may =
+    let at = e ∙ sym (ends_at past bank entries images) in
+    done past bank entries images body all
+    (subst (StandsAt bank all) (opens_over past bank entries images body)
+    (subst (λ (k : ℕ). StandsAt bank all (overwritten (seen_of past) k (1 ∷ body))) at opens)) new
+    (subst (λ (k : ℕ). WritesBlock k body past new true) at calls) bytes may
+gate_done past bank entries all images body end e opens new false well calls bytes may = absurd (false≢true well)
+
+-- A row of blocks and a closed gate is what is written: the list has these entries more.
+pub row_over : (past : List Call) (bank : Bank) (entries added : List (List ℕ)) → StandsFirm past bank entries
+    → (body : List ℕ) → AllFit added → 1 ∷ body ≡ list_of added → (end : ℕ)
+    → end ≡ bank.start + length (flat_map block entries)
+    → StandsAt bank (entries ++ added) (overwritten (seen_of past) end (1 ∷ body))
+row_over past bank entries added images body fit is end e =
+    let at = e ∙ sym (ends_at past bank entries images) in
+    subst (λ (k : ℕ). StandsAt bank (entries ++ added) (overwritten (seen_of past) k (1 ∷ body))) (sym at)
+    (subst (StandsAt bank (entries ++ added)) (sym (opens_over past bank entries images body))
+    (row_opens past bank entries images added body fit is))
+
+-- the body of one entry is such a row
+one_body : (entry : List ℕ) → 1 ∷ body_of entry ≡ list_of (entry ∷ [])
+one_body entry = ap (λ (l : List ℕ). l ++ 0 ∷ []) (sym (append-nil (block entry)))
+
+one_over : (past : List Call) (bank : Bank) (entries : List (List ℕ)) → StandsFirm past bank entries
+    → (entry : List ℕ) → length entry ≤ longest → (end : ℕ) → end ≡ bank.start + length (flat_map block entries)
+    → StandsAt bank (entries ++ entry ∷ []) (overwritten (seen_of past) end (1 ∷ body_of entry))
+one_over past bank entries images entry short end e =
+    row_over past bank entries (entry ∷ []) images (body_of entry)
+    (fit_cons entry [] short λ k d low. absurd (omega arith)) (one_body entry) end e
 
 -- A crash at any moment of the four calls, or of those up to the first that failed, leaves the old entries or the new.
 pub block_moments : (past : List Call) (bank : Bank) (entries : List (List ℕ))
@@ -311,11 +382,9 @@ pub block_moments : (past : List Call) (bank : Bank) (entries : List (List ℕ))
     → length entry ≤ longest → (end : ℕ) → end ≡ bank.start + length (flat_map block entries) → (new : List Call)
     (all_well : Bool) → WritesBlock end (body_of entry) past new all_well
     → OnlyLeaves past new (StandsForEither bank entries entry)
-unfolding P
 block_moments past bank entries images entry short end e new all_well calls =
-    moments past bank entries images entry short new all_well
-    (subst (λ (k : ℕ). WritesBlock k (body_of entry) past new all_well)
-    (e ∙ sym (ends_at past bank entries images)) calls)
+    gate_moments past bank entries (entries ++ entry ∷ []) images (body_of entry) end e
+    (one_over past bank entries images entry short end e) new all_well calls
 
 -- After all four each image stands for the new list.
 pub block_done : (past : List Call) (bank : Bank) (entries : List (List ℕ))
@@ -323,11 +392,9 @@ pub block_done : (past : List Call) (bank : Bank) (entries : List (List ℕ))
     → length entry ≤ longest → (end : ℕ) → end ≡ bank.start + length (flat_map block entries) → (new : List Call)
     (all_well : Bool) → all_well ≡ true → WritesBlock end (body_of entry) past new all_well → (bytes : List ℕ)
     → MayLeave new bytes → StandsAt bank (entries ++ entry ∷ []) bytes
-block_done past bank entries images entry short end e new true well calls bytes may =
-    done past bank entries images entry short new
-    (subst (λ (k : ℕ). WritesBlock k (body_of entry) past new true) (e ∙ sym (ends_at past bank entries images)) calls)
-    bytes may
-block_done past bank entries images entry short end e new false well calls bytes may = absurd (false≢true well)
+block_done past bank entries images entry short end e new all_well well calls bytes may =
+    gate_done past bank entries (entries ++ entry ∷ []) images (body_of entry) end e
+    (one_over past bank entries images entry short end e) new all_well well calls bytes may
 
 -- A block behind a gate, and then the gate, are the gate and the block.
 gate_last : (bytes : List ℕ) (gate : ℕ) (body : List ℕ) → gate < length bytes
@@ -349,13 +416,20 @@ gate_last bytes gate body within =
     ∙ sym (append_assoc (take gate bytes) (1 ∷ body) behind)
     ∙ ap (λ (n : ℕ). take gate bytes ++ (1 ∷ body) ++ drop n bytes) (omega arith)
 
--- After all four the bytes are the old ones with the block written over them, and nothing is unsynced.
+-- After all four the bytes are the old ones with the open gate and the body written over them, and nothing is unsynced.
+pub gate_bytes : (past new : List Call) (gate : ℕ) (body : List ℕ) (all_well : Bool) → all_well ≡ true
+    → gate < length (seen_of past) → WritesBlock gate body past new all_well
+    → state new ≡ settled (overwritten (seen_of past) gate (1 ∷ body))
+gate_bytes past new at body true well inside calls = ap state calls
+    ∙ ap settled (gate_last (seen_of past) at body inside)
+gate_bytes past new _ body false well _ calls = absurd (false≢true well)
+
+-- so it is with one entry
 pub block_bytes : (past new : List Call) (gate : ℕ) (entry : List ℕ) (all_well : Bool) → all_well ≡ true
     → gate < length (seen_of past) → WritesBlock gate (body_of entry) past new all_well
     → state new ≡ settled (with_block (seen_of past) gate entry)
-block_bytes past new gate entry true well within calls = ap state calls
-    ∙ ap settled (gate_last (seen_of past) gate (body_of entry) within)
-block_bytes past new gate entry false well within calls = absurd (false≢true well)
+block_bytes past new gate entry all_well well within calls =
+    gate_bytes past new gate (body_of entry) all_well well within calls
 
 -- No call was made.
 pub nothing_done : (past new : List Call) (bank : Bank) (entries : List (List ℕ))

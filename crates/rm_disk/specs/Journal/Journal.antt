@@ -4,9 +4,9 @@ use Rattle.std.specs.Prelude.{if◌then◌else◌, List, [], ◌∷◌, ◌++◌
 use Rattle.std.specs.Int.{w64, to_be_bytes}
 use Rattle.rm_base.specs.Limits as limits
 use Rattle.rm_disk.specs.Call.{Call, overwritten}
-use Rattle.rm_disk.specs.Image.{MayLeave}
+use Rattle.rm_disk.specs.Image.{MayLeave, OnlyLeaves}
 use Rattle.rm_disk.specs.Journal.Entries.{Bank, longest, block, list_of, slot_of, StandsAt, StandsAsBefore}
-use Rattle.rm_disk.specs.Journal.Entries.{gates_from}
+use Rattle.rm_disk.specs.Journal.Entries.{gates_from, StandsForOneOf}
 use Rattle.rm_disk.specs.Journal.JournalState.{JournalState, end_of, journal_at, journal_of}
 use Rattle.rm_disk.specs.declared.journal.error.JournalError.{JournalError}
 use Rattle.rm_disk.specs.declared.journal.error.JournalError.TheVariants as Variant
@@ -57,6 +57,34 @@ with_entry journal len = record journal { gates = journal.gates ++ (end_of journ
 -- entry and a closed gate are written over what stood there, and what stands further behind stays.
 abbrev pub with_block : List ℕ → ℕ → List ℕ → List ℕ
 with_block bytes gate entry = overwritten bytes gate (block entry ++ 0 ∷ [])
+
+-- The refusal, before any call on the disk, of a row of entries whose blocks and closed gate take so many bytes.
+abbrev pub row_refusal : JournalState → ℕ → Option JournalError
+row_refusal journal size =
+    if journal.is_down then Some Variant.Down
+    else if nat_lt limit (end_of journal + size)
+    then Some (Variant.Full (end_of journal) (min size (2 ^ 64 - 1)))
+    else None
+
+-- the journal with these entries more
+abbrev pub with_entries : JournalState → List (List ℕ) → JournalState
+with_entries journal added = record journal { gates = journal.gates ++ gates_from (end_of journal) added }
+
+-- the bytes with these entries more: their blocks and a closed gate are written over what stood there
+abbrev pub with_row : List ℕ → ℕ → List (List ℕ) → List ℕ
+with_row bytes gate added = overwritten bytes gate (list_of added)
+
+-- the journal after a call that adds these entries or answers an error
+abbrev pub row_appended : {T : Type 0} → JournalState → List (List ℕ) → Result T JournalError → JournalState
+row_appended journal added (Ok value) = with_entries journal added
+row_appended journal added (Err Variant.Disk) = record journal { is_down = true }
+row_appended journal added (Err _) = journal
+
+-- What is written behind the closed gate is there for good where all went well, and a crash at any moment of the calls
+-- leaves the old list or the new one.
+pub record Carries (bank : Bank) (entries all : List (List ℕ)) (old new : List Call) (ok : Bool) : Type 0 where
+  pub moments : OnlyLeaves old new (StandsForOneOf bank entries bank all)
+  pub done : ok ≡ true → (bytes : List ℕ) → MayLeave new bytes → StandsAt bank all bytes
 
 -- The journal after a call that adds an entry of this length or answers an error.
 abbrev pub appended : {T : Type 0} → JournalState → ℕ → Result T JournalError → JournalState

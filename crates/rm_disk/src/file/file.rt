@@ -2,8 +2,8 @@
 ghost use Rattle.std.specs.Prelude.{◌≡◌, ◌-◌, ◌^◌, ℕ, [], false, None, is_err};
 ghost use Rattle.rm_disk.specs.Cause.{HasCause};
 
-use crate::Disk;
 use crate::file::fault::{Fault, named};
+use crate::{Disk, ReadDisk};
 use rm_base::{Failed, Memory};
 use std::fs::{File, Files, OpenOptions, TryLockError};
 use std::os::unix::fs::FileExt;
@@ -140,6 +140,22 @@ impl<R: Files<File = File>> Disk for FileDisk<R> {
 
     ghost spare = { λ _. record { calls = 2 ^ 64 - 1; bytes = 2 ^ 64 - 1 } };
 
+    fn reserve(&mut self, _calls: u64, _bytes: u64) -> Result<(), Memory> {
+        Ok(())
+    }
+
+    fn write_at(&mut self, at: u64, bytes: &[u8]) -> Result<(), Failed> {
+        let outcome = try_write(&self.files, &mut self.file, at, bytes);
+        counted(&mut self.faults, &mut self.last, outcome)
+    }
+
+    fn sync(&mut self) -> Result<(), Failed> {
+        let outcome = try_sync(&self.files, &mut self.file);
+        counted(&mut self.faults, &mut self.last, outcome)
+    }
+}
+
+impl<R: Files<File = File>> ReadDisk for FileDisk<R> {
     fn len(&mut self) -> Result<u64, Failed> {
         let outcome = try_len(&self.files, &mut self.file);
         counted(&mut self.faults, &mut self.last, outcome)
@@ -150,22 +166,8 @@ impl<R: Files<File = File>> Disk for FileDisk<R> {
         counted(&mut self.faults, &mut self.last, outcome)
     }
 
-    fn reserve(&mut self, _calls: u64, _bytes: u64) -> Result<(), Memory> {
-        Ok(())
-    }
-
-    fn write_at(&mut self, at: u64, bytes: &[u8]) -> Result<(), Failed> {
-        let outcome = try_write(&self.files, &mut self.file, at, bytes);
-        counted(&mut self.faults, &mut self.last, outcome)
-    }
-
     fn cut(&mut self, len: u64) -> Result<(), Failed> {
         let outcome = try_cut(&self.files, &mut self.file, len);
-        counted(&mut self.faults, &mut self.last, outcome)
-    }
-
-    fn sync(&mut self) -> Result<(), Failed> {
-        let outcome = try_sync(&self.files, &mut self.file);
         counted(&mut self.faults, &mut self.last, outcome)
     }
 }

@@ -1,9 +1,9 @@
 //! The file of a node, as it stands, for one who changes nothing.
 ghost use Rattle.std.specs.Prelude.{◌≡◌, ◌-◌, ◌^◌, ℕ, [], false, None, is_err};
 
-use crate::Disk;
 use crate::file::fault::{Fault, named};
 use crate::file::file::{NAME, counted};
+use crate::{Disk, ReadDisk};
 use rm_base::{Failed, Memory};
 use std::fs::{File, Files};
 use std::io::ErrorKind;
@@ -94,6 +94,20 @@ impl<R: Files<File = File>> Disk for FileReader<R> {
 
     ghost spare = { λ _. record { calls = 2 ^ 64 - 1; bytes = 2 ^ 64 - 1 } };
 
+    fn reserve(&mut self, _calls: u64, _bytes: u64) -> Result<(), Memory> {
+        Ok(())
+    }
+
+    fn write_at(&mut self, _at: u64, _bytes: &[u8]) -> Result<(), Failed> {
+        counted(&mut self.faults, &mut self.last, Err(Fault::ReadAlone))
+    }
+
+    fn sync(&mut self) -> Result<(), Failed> {
+        Ok(())
+    }
+}
+
+impl<R: Files<File = File>> ReadDisk for FileReader<R> {
     fn len(&mut self) -> Result<u64, Failed> {
         let outcome = try_len(&self.files, &mut self.file);
         counted(&mut self.faults, &mut self.last, outcome)
@@ -104,19 +118,7 @@ impl<R: Files<File = File>> Disk for FileReader<R> {
         counted(&mut self.faults, &mut self.last, outcome)
     }
 
-    fn reserve(&mut self, _calls: u64, _bytes: u64) -> Result<(), Memory> {
-        Ok(())
-    }
-
-    fn write_at(&mut self, _at: u64, _bytes: &[u8]) -> Result<(), Failed> {
-        counted(&mut self.faults, &mut self.last, Err(Fault::ReadAlone))
-    }
-
     fn cut(&mut self, _len: u64) -> Result<(), Failed> {
         counted(&mut self.faults, &mut self.last, Err(Fault::ReadAlone))
-    }
-
-    fn sync(&mut self) -> Result<(), Failed> {
-        Ok(())
     }
 }

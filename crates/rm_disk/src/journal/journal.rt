@@ -15,11 +15,11 @@ ghost use Rattle.rm_disk.specs.declared.journal.error.JournalError.TheVariants.{
 ghost use Rattle.rm_disk.specs.declared.journal.error.JournalError.TheVariants.{Disk as DiskFails};
 ghost use Rattle.rm_disk.specs.declared.journal.error.JournalError.TheVariants.{NotAJournal, Down as IsDown};
 
-use crate::Disk;
 use crate::journal::JournalError;
 use crate::journal::block::{body_of, first_text, list_of, size_of, write_block, write_list};
 use crate::journal::place::{last_gate, read_bytes, span_of};
 use crate::journal::scan::{HEAD_BEFORE, bank_of, gates_of};
+use crate::{Disk, ReadDisk};
 use rm_base::Blob;
 use rm_base::limits::{ENTRY_BYTES, JOURNAL_BYTES};
 use std::alloc::Global;
@@ -56,6 +56,7 @@ impl Journal {
     ghost use Rattle.rm_disk.specs.Journal.Journal.{is_memory};
     ghost use Rattle.rm_disk.specs.Journal.Journal.{with_block, appended, after_reading, compacted, next_bank};
     ghost use Rattle.rm_disk.specs.Journal.Journal.{with_list};
+    ghost use Rattle.rm_disk.specs.Journal.Journal.{row_appended, row_refusal as row_refusal_of, with_row};
     ghost use Rattle.rm_disk.specs.Journal.Journal.{list_refusal as list_refusal_of, fits_before as fits_before_of};
     ghost use Rattle.rm_disk.specs.Journal.Journal.{place_for as place_of};
 
@@ -66,7 +67,7 @@ impl Journal {
     ///   unsynced; each image stands for no entries.
     /// - Memory: before any device call (`refusals`, `untouched`).
     /// - Disk: exactly where the fuse lies among the device calls (`cause`, `fuse`).
-    pub fn format<D: Disk>(alloc: Global, disk: &mut D) -> Result<Journal, JournalError>
+    pub fn format<D: ReadDisk>(alloc: Global, disk: &mut D) -> Result<Journal, JournalError>
         ensures made { IfOk result (λ journal. journal ≡ journal_of []) }
         ensures fits { IsTrue D.tells → IfOk result (Fits [] (D.told disk.new).past) }
 
@@ -108,7 +109,7 @@ impl Journal {
     ///   (`none`, `fits`).
     /// - Memory: before any device call, or after two or three that went well (`memory`).
     /// - Disk: exactly where the fuse lies among the device calls (`cause`, `fuse`).
-    pub fn mount<D: Disk>(alloc: Global, disk: &mut D) -> Result<Journal, JournalError>
+    pub fn mount<D: ReadDisk>(alloc: Global, disk: &mut D) -> Result<Journal, JournalError>
         ensures fits { IsTrue D.tells → IfOk result (λ journal. (entries : List (List ℕ)) ×
             StandsAt journal.bank entries (seen_of (D.told disk.old).past)
             × Fits entries (D.told disk.new).past journal) }
@@ -162,7 +163,7 @@ impl Journal {
     /// - Memory: no device call was made (`answers`, `untouched`).
     /// - Disk: of bytes that stand for a list for which a journal has room, exactly where the fuse lies among the
     ///   device calls; nothing is said of what the disk holds (`answers`, `cause`, `fuse`).
-    pub fn import<D: Disk>(
+    pub fn import<D: ReadDisk>(
         alloc: Global,
         disk: &mut D,
         bytes: &[u8],
@@ -264,6 +265,52 @@ impl Journal {
         Ok(())
     }
 
+    /// Adds entries, in the same four device calls as one: it writes them behind the closed gate, each but the first
+    /// behind an open gate of its own, syncs, opens the gate before the first, syncs. So one byte decides of all of
+    /// them. After Disk all of them are on the disk or none, and the journal is down: mount the disk again.
+    pub fn append_all<D: Disk>(&mut self, disk: &mut D, added: &[Blob]) -> Result<(), JournalError>
+        requires some { added.now ≢ [] }
+        requires short { AllFit added.now }
+        requires fits { IsTrue D.tells → FitsUnlessDown (D.told disk.old).past self.old }
+
+        ensures refusals { Answers (row_refusal_of self.old (length (list_in added.now))) result }
+        ensures journal { self.new ≡ row_appended self.old added.now result }
+
+        // On a disk that tells, at Ok the entries are there for good, and a crash at any moment of the call leaves the
+        // old entries, or these with all of the new ones.
+        ensures ok { IsTrue D.tells → (entries : List (List ℕ)) → Fits entries (D.told disk.old).past self.old →
+            OnOk result (Fits (entries ++ added.now) (D.told disk.new).past self.new) }
+        ensures bytes { IsTrue D.tells → OnOk result (state (D.told disk.new).past ≡
+            settled (with_row (seen_of (D.told disk.old).past) (end_of self.old) added.now)) }
+        ensures moments { IsTrue D.tells → (entries : List (List ℕ)) → Fits entries (D.told disk.old).past self.old →
+            OnlyLeaves (D.told disk.old).past (D.told disk.new).past
+            (StandsForOneOf self.old.bank entries self.old.bank (entries ++ added.now)) }
+
+        // Each answer but Ok and Disk comes before any device call.
+        ensures untouched { IsTrue D.tells → IfErr result (λ error. error ≢ DiskFails →
+            ((D.told disk.new).past ≡ (D.told disk.old).past) × ((D.told disk.new).fuse ≡ (D.told disk.old).fuse)) }
+
+        ensures fuse { IsTrue D.tells → (is_ok result ≡ true) ⊎ (is_disk result ≡ true) →
+            Burns 4 (D.told disk.old).fuse (D.told disk.new).fuse (is_ok result) }
+        ensures cause { HasCause (D.told disk.old).faults (D.told disk.new).faults (is_disk result) }
+        ensures crashes { IsTrue D.tells → crashes_of (D.told disk.new).past ≡ crashes_of (D.told disk.old).past }
+    {
+        let size = size_of(added);
+        if let Some(refusal) = self.row_refusal(size) {
+            return Err(refusal);
+        }
+        let end = self.end();
+        let list = list_of(self.alloc, end, added)?;
+        self.gates.reserve(list.gates.len())?;
+        disk.reserve(4, size)?;
+        if write_block(disk, end, &list.bytes[1..]).is_err() {
+            self.down = true;
+            return Err(JournalError::Disk);
+        }
+        self.gates.extend_from_slice(&list.gates).unwrap();
+        Ok(())
+    }
+
     /// Writes the list anew, in five device calls: it writes the fresh list before the one that stands, where that has
     /// room, else behind it; writes its start into the slot that doesn't count; syncs; writes the selector; syncs.
     /// After Disk one of the two lists is on the disk, and the journal is down: mount the disk again.
@@ -324,7 +371,7 @@ impl Journal {
     /// - Down: exactly where the journal is down (`down`).
     /// - Disk: exactly where the fuse lies at its one device call; the journal is down, and what the disk has stays
     ///   (`cause`, `fuse`, `past`).
-    pub fn entry<D: Disk>(&mut self, disk: &mut D, i: u64) -> Result<Blob, JournalError>
+    pub fn entry<D: ReadDisk>(&mut self, disk: &mut D, i: u64) -> Result<Blob, JournalError>
         requires number { (1 ≤ i) × (i ≤ length self.old.gates) }
         requires fits { IsTrue D.tells → FitsUnlessDown (D.told disk.old).past self.old }
         ensures value { IsTrue D.tells → (entries : List (List ℕ)) → Fits entries (D.told disk.old).past self.old →
@@ -400,6 +447,20 @@ impl Journal {
         let needed = len + 6;
         if end > JOURNAL_BYTES - needed {
             return Some(JournalError::Full { end, needed });
+        }
+        None
+    }
+
+    // The refusal of a row of so many bytes that comes before any call on the disk.
+    fn row_refusal(&self, size: u64) -> Option<JournalError>
+        ensures { (n : ℕ) → size ≡ min n (2 ^ 64 - 1) → result ≡ row_refusal_of self.now n }
+    {
+        if self.down {
+            return Some(JournalError::Down);
+        }
+        let end = self.end();
+        if end.saturating_add(size) > JOURNAL_BYTES {
+            return Some(JournalError::Full { end, needed: size });
         }
         None
     }

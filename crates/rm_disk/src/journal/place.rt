@@ -10,7 +10,7 @@ ghost use Rattle.rm_disk.specs.Journal.Journal.{is_disk, is_memory};
 ghost use Rattle.rm_disk.specs.declared.journal.error.JournalError.TheVariants.{Memory as WantsMemory};
 ghost use Rattle.rm_disk.specs.declared.journal.error.JournalError.TheVariants.{Disk as DiskFails};
 
-use crate::Disk;
+use crate::ReadDisk;
 use crate::journal::JournalError;
 use std::alloc::Global;
 
@@ -45,7 +45,7 @@ pub fn span_of(start: u64, gates: &[u64], k: usize) -> (u64, u64)
 }
 
 /// So many bytes from a place on, in one device call. Memory comes before it.
-pub fn read_bytes<D: Disk>(
+pub fn read_bytes<D: ReadDisk>(
     alloc: Global,
     disk: &mut D,
     at: u64,

@@ -1,7 +1,7 @@
 use Rattle.std.proofs.Common.{refl}
 use Rattle.rm_disk.specs.declared.note.Note.TheVariants.{Cut, FailedCut}
 use Rattle.rm_disk.proofs.History.{calls_of-note, state-note, used-note}
-use Rattle.rm_disk.proofs.mem.MemDiskDisk.cut.Goals as goal
+use Rattle.rm_disk.proofs.mem.MemDiskReadDisk.cut.Goals as goal
 
 pub invariant_of-self-clause-content : goal.invariant_of-self-clause-content
 invariant_of-self-clause-content c =
