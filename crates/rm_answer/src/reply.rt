@@ -8,14 +8,14 @@ ghost use Rattle.soap_envelope.specs.Soap.{soap_space};
 ghost use Rattle.message_reader.specs.Refusals.{blind};
 ghost use Rattle.message_writer.specs.Faults.{fault_of};
 ghost use Rattle.message_writer.specs.Text.{message_text};
-ghost use Rattle.message_writer.specs.Text11.{message11_text};
+ghost use Rattle.message_writer.specs.Text11.{has_code11, message11_text, text11_if};
 
 use http_endpoint::{HttpError, Media};
 use message_writer::table::code;
 use message_writer::{encode, encode11, fault_message};
 use node_messages::{anonymous, plain_endpoint};
 use rm_base::{Blob, Memory};
-use rm_message::{FaultCode, FaultKind, Names, Refusal};
+use rm_message::{FaultCode, FaultKind, Message, Names, Refusal};
 use std::alloc::Global;
 
 /// The status of a response, and its body.
@@ -157,7 +157,16 @@ fn fault12_text(alloc: Global, refusal: &Refusal) -> Result<Blob, Memory>
     ensures { IfOk result (λ text. text ≡ message_text soap_space (fault_of refusal.now None)) }
 {
     let message = fault_message(alloc, refusal, None)?;
-    encode(alloc, &message)
+    encoded(alloc, message)
+}
+
+// The text of a message, which is let go: by a call of std's drop, since a derived one is taken apart where it stands.
+fn encoded(alloc: Global, message: Message) -> Result<Blob, Memory>
+    ensures { IfOk result (λ text. text ≡ message_text soap_space message) }
+{
+    let text = encode(alloc, &message);
+    drop(message);
+    text
 }
 
 // (SOAP 1.1 has a code for each kind)
@@ -165,8 +174,16 @@ fn fault11_text(alloc: Global, refusal: &Refusal) -> Result<Blob, Memory>
     ensures { IfOk result (λ text. text ≡ message11_text (fault_of refusal.now None)) }
 {
     let message = fault_message(alloc, refusal, None)?;
-    match encode11(alloc, &message)? {
+    match encoded11(alloc, message)? {
         Some(text) => Ok(text),
         None => unreachable!(),
     }
+}
+
+fn encoded11(alloc: Global, message: Message) -> Result<Option<Blob>, Memory>
+    ensures { IfOk result (λ text. text ≡ text11_if (has_code11 message.body) message) }
+{
+    let text = encode11(alloc, &message);
+    drop(message);
+    text
 }
