@@ -22,14 +22,15 @@ fn addressing_to(alloc: Global, to: Epr, action: &[u8]) -> Result<Addressing, Me
     }) }
 {
     let action = uri_of(alloc, action)?;
+    let (address, params) = to.into_parts();
     Ok(Addressing {
-        to: to.address,
+        to: address,
         action,
         message_id: None,
         relates: None,
         reply_to: None,
         fault_to: None,
-        params: to.params,
+        params,
     })
 }
 

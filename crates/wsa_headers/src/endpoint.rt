@@ -45,6 +45,15 @@ impl Epr {
         let params = self.params.copy(alloc)?;
         Ok(Epr { address, params })
     }
+
+    /// Its address and its reference parameters, which are moved out.
+    pub fn into_parts(self) -> (Uri, Elements)
+        ensures address { result.0 ≡ self.address }
+        ensures params { result.1 ≡ self.params }
+    {
+        let Epr { address, params } = self;
+        (address, params)
+    }
 }
 
 /// An endpoint reference again, where there is one.
