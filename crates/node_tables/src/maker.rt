@@ -18,7 +18,7 @@ use wsa_headers::Epr;
 /// How a sequence came to be, as the record that made it has it: WS-ReliableMessaging 1.2, section 3.4. Asked: with
 /// CreateSequence. Offered: the incoming one of its Offer. Granted: to a peer. Taken: the outgoing one of the peer's
 /// Offer.
-#[derive(Clone, Copy, Debug)]
+#[derive(Clone, Copy)]
 pub enum Maker<'a> {
     Asked {
         ticket: u64,

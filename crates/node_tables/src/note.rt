@@ -11,7 +11,7 @@ use rm_sides::ranges::RangeSet;
 /// A record as it is kept: the place of a record that is kept whole; the row, counted from 0, and the number there of a
 /// message that was accepted or received, and whether it was the first that was received there; the numbers that are
 /// acknowledged; how far a sequence was consumed; or which messages of it are gone.
-#[derive(Debug, Drop)]
+#[derive(Drop)]
 pub(crate) enum Note {
     Kept {
         place: usize,
@@ -44,21 +44,21 @@ pub(crate) enum Note {
 }
 
 /// How a row came to be: the place of the record that made it, and whether it is the second sequence of that record.
-#[derive(Clone, Copy, Debug)]
+#[derive(Clone, Copy)]
 pub(crate) struct Origin {
     pub made: usize,
     pub is_second: bool,
 }
 
 /// A sequence that was given an identifier, and the place of the record that gave it.
-#[derive(Clone, Copy, Debug)]
+#[derive(Clone, Copy)]
 pub(crate) struct Named {
     pub seq: u32,
     pub place: usize,
 }
 
 /// A sequence that a record to come will make: how it begins, and its row, with room for records of it.
-#[derive(Debug, Drop)]
+#[derive(Drop)]
 pub(crate) struct Coming {
     pub start: Start,
     pub row: Row,

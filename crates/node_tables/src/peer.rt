@@ -13,7 +13,7 @@ use rm_base::{Lapse, Uri};
 use wsa_headers::Epr;
 
 /// Where messages to the peer of a sequence go: a node knows the address alone of one that it asked for a sequence.
-#[derive(Clone, Copy, Debug)]
+#[derive(Clone, Copy)]
 pub enum Peer<'a> {
     Address(&'a Uri),
     Reference(&'a Epr),
@@ -21,7 +21,7 @@ pub enum Peer<'a> {
 
 /// What an outgoing sequence was asked for with: CreateSequence of WS-ReliableMessaging 1.2, section 3.4. `offered` is
 /// the incoming sequence of its Offer.
-#[derive(Clone, Copy, Debug)]
+#[derive(Clone, Copy)]
 pub struct Asked {
     pub via: Via,
     pub lapse: Lapse,
@@ -30,7 +30,7 @@ pub struct Asked {
 
 /// What an incoming sequence was granted with: CreateSequenceResponse of WS-ReliableMessaging 1.2, section 3.4. `taken`
 /// is the outgoing sequence of the Offer that was accepted along with it.
-#[derive(Clone, Copy, Debug)]
+#[derive(Clone, Copy)]
 pub struct Grant {
     pub lapse: Lapse,
     pub taken: Option<u32>,

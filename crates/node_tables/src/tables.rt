@@ -49,7 +49,6 @@ use wsa_headers::Epr;
 /// The records of a node, and what they say. Texts of rare records, as addresses and MessageIDs, stay in their records,
 /// each once. What the node issued is compared and not kept: an identifier that comes is read to the number that it was
 /// issued for.
-#[derive(Debug, Drop)]
 pub struct Tables {
     alloc: Global,
     kept: Vec<Record>,
@@ -64,6 +63,25 @@ pub struct Tables {
     // whether a snapshot was made and nothing was applied since, and its notes
     marked: bool,
     short: Vec<Note>,
+}
+
+impl Drop for Tables {
+    fn drop(self) {
+        let Tables {
+            alloc: _,
+            kept: _,
+            rows: _,
+            notes: _,
+            origins: _,
+            named: _,
+            ahead: _,
+            slots: _,
+            number: _,
+            drawn: _,
+            marked: _,
+            short: _,
+        } = self;
+    }
 }
 
 impl Model for Tables {

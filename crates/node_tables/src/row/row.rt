@@ -51,10 +51,18 @@ use std::alloc::Global;
 use std::marker::Model;
 
 /// A side of a sequence.
-#[derive(Debug, Drop)]
 pub(crate) enum Core {
     Sends(Outgoing),
     Receives(Incoming),
+}
+
+impl Drop for Core {
+    fn drop(self) {
+        match self {
+            Core::Sends(_) => {}
+            Core::Receives(_) => {}
+        }
+    }
 }
 
 /// How a sequence begins: asked for with this ticket, taken from an offer of the peer, offered to the peer, or granted.
@@ -74,10 +82,15 @@ pub enum Start {
 }
 
 /// One sequence of a node. Room that was made for records to come counts until it is used or given up.
-#[derive(Debug, Drop)]
 pub struct Row {
     ticket: Option<u64>,
     core: Core,
+}
+
+impl Drop for Row {
+    fn drop(self) {
+        let Row { ticket: _, core: _ } = self;
+    }
 }
 
 impl Model for Row {
