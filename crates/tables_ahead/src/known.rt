@@ -37,7 +37,7 @@ use std::marker::Model;
 use wsa_headers::Epr;
 
 /// The tables of a node with records ahead, which are not written yet.
-#[derive(Debug, Drop)]
+#[derive(Drop)]
 pub struct Known<'a> {
     alloc: Global,
     tables: &'a Tables,

@@ -127,8 +127,10 @@ pub(crate) fn is_stopped(tables: &Tables, seq: u32) -> bool
         cause: Cause::Operator,
         last: 0,
     };
+    let comes = tables.fits(&close);
+    drop(close);
     match tables.incoming(seq) {
-        Some(_) => !tables.fits(&close),
+        Some(_) => !comes,
         None => false,
     }
 }
@@ -143,8 +145,10 @@ pub(crate) fn has_end(tables: &Tables, seq: u32) -> bool
         cause: Cause::Operator,
         last: 0,
     };
+    let comes = tables.fits(&end);
+    drop(end);
     match tables.incoming(seq) {
-        Some(_) => !tables.fits(&end),
+        Some(_) => !comes,
         None => false,
     }
 }

@@ -12,7 +12,7 @@ use rm_base::Ident;
 
 /// What was sought: the number that the node issued an identifier for, and the incoming sequence that has it. Where
 /// there is no number nothing was.
-#[derive(Clone, Copy, Debug)]
+#[derive(Clone, Copy)]
 pub(crate) struct Sought {
     pub drawn: Option<u64>,
     pub seq: Option<u32>,
