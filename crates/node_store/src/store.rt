@@ -44,11 +44,20 @@ use std::alloc::Global;
 use std::marker::Model;
 
 /// The journal of a node on a disk, and the tables of its records.
-#[derive(Debug, Drop)]
 pub struct Store {
     alloc: Global,
     journal: Journal,
     tables: Tables,
+}
+
+impl Drop for Store {
+    fn drop(self) {
+        let Store {
+            alloc: _,
+            journal: _,
+            tables: _,
+        } = self;
+    }
 }
 
 impl Model for Store {
