@@ -11,7 +11,6 @@ use timers::keys::KeyTimers;
 use timers::pending::Pending;
 
 /// What a node keeps besides its records. It is not on the disk: a mount works it out anew.
-#[derive(Drop)]
 pub struct Kept {
     /// What the node announces for the sequences that it grants from now on.
     pub granted: Behaviour,
@@ -19,6 +18,16 @@ pub struct Kept {
     pub timers: KeyTimers,
     /// The messages that wait for addresses that nobody can reach, until they are asked for.
     pub polled: Pending<Message>,
+}
+
+impl Drop for Kept {
+    fn drop(self) {
+        let Kept {
+            granted: _,
+            timers: _,
+            polled: _,
+        } = self;
+    }
 }
 
 impl Kept {

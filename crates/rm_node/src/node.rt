@@ -36,11 +36,20 @@ use std::marker::Model;
 
 /// A node on a disk: the journal and the tables of its records, and what it keeps besides. The disk is passed to each
 /// call, and is always the same.
-#[derive(Drop)]
 pub struct Node {
     pub(crate) alloc: Global,
     pub(crate) store: Store,
     pub(crate) kept: Kept,
+}
+
+impl Drop for Node {
+    fn drop(self) {
+        let Node {
+            alloc: _,
+            store: _,
+            kept: _,
+        } = self;
+    }
 }
 
 impl Model for Node {
