@@ -13,8 +13,13 @@ pub struct Stage<M: CrashDisk, W: Wire> {
 }
 
 /// Both nodes.
-#[derive(Drop)]
 pub struct Nodes {
     pub one: Actor,
     pub two: Actor,
+}
+
+impl Drop for Nodes {
+    fn drop(self) {
+        let Nodes { one: _, two: _ } = self;
+    }
 }

@@ -12,11 +12,20 @@ use std::marker::Model;
 
 /// A node of a script, with its clock in milliseconds since 1970. The disk is passed to each call, and is always the
 /// same.
-#[derive(Drop)]
 pub struct Actor {
     pub(crate) alloc: Global,
     pub(crate) node: Node,
     pub(crate) clock: u64,
+}
+
+impl Drop for Actor {
+    fn drop(self) {
+        let Actor {
+            alloc: _,
+            node: _,
+            clock: _,
+        } = self;
+    }
 }
 
 /// How a call came out, and what left the node: the text of the reply on the connection, and then the other packets.
