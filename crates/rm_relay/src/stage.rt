@@ -14,9 +14,18 @@ pub struct Stage3<M: CrashDisk, W: Wire> {
 }
 
 /// The three nodes.
-#[derive(Drop)]
 pub struct Nodes3 {
     pub one: Actor,
     pub two: Actor,
     pub three: Actor,
+}
+
+impl Drop for Nodes3 {
+    fn drop(self) {
+        let Nodes3 {
+            one: _,
+            two: _,
+            three: _,
+        } = self;
+    }
 }
