@@ -57,7 +57,6 @@ pub(crate) enum Mode {
 }
 
 /// The token that is not ended, and what was read of a tag.
-#[derive(Drop)]
 pub(crate) struct Scan {
     pub(crate) mode: Mode,
     // No text, comment or tag was read.
@@ -74,6 +73,26 @@ pub(crate) struct Scan {
     valued: ValueReader,
     value: Vec<u8>,
     pub(crate) alloc: Global,
+}
+
+impl Drop for Scan {
+    fn drop(self) {
+        let Scan {
+            mode: _,
+            fresh: _,
+            at: _,
+            markup: _,
+            token: _,
+            words: _,
+            text: _,
+            name: _,
+            attributes: _,
+            attribute: _,
+            valued: _,
+            value: _,
+            alloc: _,
+        } = self;
+    }
 }
 
 impl Scan {

@@ -17,9 +17,14 @@ use std::alloc::Global;
 
 /// A reader of a document that is fed its bytes in pieces, and makes its tree meanwhile. It keeps the tree so far, and
 /// of the bytes only a token that has not ended. It doesn't count what it is fed: a document may have fewer bytes.
-#[derive(Drop)]
 pub struct DocumentReader {
     reader: Reader<Resolver>,
+}
+
+impl Drop for DocumentReader {
+    fn drop(self) {
+        let DocumentReader { reader: _ } = self;
+    }
 }
 
 impl DocumentReader {
@@ -72,7 +77,8 @@ impl DocumentReader {
     {
         document_is_read();
         document_is_utf8();
-        let Some(root) = root_read(self.reader) else {
+        let DocumentReader { reader } = self;
+        let Some(root) = root_read(reader) else {
             return None;
         };
         Some(Placed {

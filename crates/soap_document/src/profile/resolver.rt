@@ -108,7 +108,6 @@ pub(crate) struct Root {
 }
 
 /// Resolves the names of the elements of which a reader tells it.
-#[derive(Drop)]
 pub(crate) struct Resolver {
     scope: Scope,
     // The innermost element, and those around it, the outermost first, which is the document itself.
@@ -119,6 +118,19 @@ pub(crate) struct Resolver {
     // Vectors without items.
     spare: Vec<Vec<Item>>,
     alloc: Global,
+}
+
+impl Drop for Resolver {
+    fn drop(self) {
+        let Resolver {
+            scope: _,
+            top: _,
+            below: _,
+            broken: _,
+            spare: _,
+            alloc: _,
+        } = self;
+    }
 }
 
 impl Resolver {
@@ -151,7 +163,15 @@ impl Resolver {
     pub(crate) fn finish(self) -> Option<Root>
         ensures { (top : Frame) → Stands self top [] → option_map root_view result ≡ rooted (only_child top.parts) }
     {
-        if self.broken {
+        let Resolver {
+            scope: _,
+            top,
+            below: _,
+            broken,
+            spare: _,
+            alloc: _,
+        } = self;
+        if broken {
             return None;
         }
         let Opened {
@@ -159,7 +179,7 @@ impl Resolver {
             start: _,
             last,
             inner,
-        } = self.top;
+        } = top;
         Some(Root {
             tree: lone(element.items)?,
             place: last?,

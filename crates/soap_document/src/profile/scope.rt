@@ -17,13 +17,24 @@ use std::alloc::Global;
 use std::collections::BTreeMap;
 
 /// The bindings in force, and the names that were resolved by them.
-#[derive(Drop)]
 pub(crate) struct Scope {
     stacks: Stacks,
     pub(crate) elements: Pool,
     pub(crate) attributes: Pool,
     predeclared: Predeclared,
     pub(crate) recent: Recent,
+}
+
+impl Drop for Scope {
+    fn drop(self) {
+        let Scope {
+            stacks: _,
+            elements: _,
+            attributes: _,
+            predeclared: _,
+            recent: _,
+        } = self;
+    }
 }
 
 impl Scope {
