@@ -3,7 +3,7 @@ use rm_base::{Bindings, Payload};
 use soap_document::profile::{Elements, Parts};
 
 /// An envelope: SOAP 1.2 Part 1, section 5.
-#[derive(Debug)]
+#[derive(Debug, Drop)]
 pub struct Envelope {
     /// The header blocks, in order.
     pub headers: Elements,
@@ -13,15 +13,4 @@ pub struct Envelope {
     pub payload: Payload,
     /// What those bytes are: Body's parts, without its declarations and attributes.
     pub body: Parts,
-}
-
-impl Drop for Envelope {
-    fn drop(self) {
-        let Envelope {
-            headers: _,
-            header_scope: _,
-            payload: _,
-            body: _,
-        } = self;
-    }
 }

@@ -28,12 +28,21 @@ use soap_envelope::{Envelope, envelope_of, read_envelope};
 use std::alloc::Global;
 
 /// What is answered of bytes in which a root has ended, what reads on, and how much of all bytes is UTF-8.
-#[derive(Drop)]
 pub(crate) struct Ended {
     answer: Result<Envelope, EnvelopeError>,
     // It was fed another root.
     tail: Reader<Depth>,
     front: Front,
+}
+
+impl Drop for Ended {
+    fn drop(self) {
+        let Ended {
+            answer: _,
+            tail: _,
+            front: _,
+        } = self;
+    }
 }
 
 impl Ended {
@@ -123,9 +132,14 @@ impl Ended {
         document_is_utf8();
         pieces_are_joined();
         content_stands_between();
-        match self.tail.finish() {
-            Some(_) => self.answer,
-            None => Err(self.front.why_none(len)),
+        let Ended {
+            answer,
+            tail,
+            front,
+        } = self;
+        match tail.finish() {
+            Some(_) => answer,
+            None => Err(front.why_none(len)),
         }
     }
 }

@@ -39,11 +39,20 @@ use std::mem;
 /// wanting once, all later calls say so. What stands behind a root is read by a second reader of documents, which was
 /// fed `<a/>`: behind the ends of two roots the machine does the same. Where a piece ends within a comment there, or a
 /// rule of namespaces is broken, the bytes are read once more.
-#[derive(Drop)]
 pub struct EnvelopeReader {
     alloc: Global,
     stage: Stage,
     fed: usize,
+}
+
+impl Drop for EnvelopeReader {
+    fn drop(self) {
+        let EnvelopeReader {
+            alloc: _,
+            stage: _,
+            fed: _,
+        } = self;
+    }
 }
 
 impl EnvelopeReader {
@@ -113,6 +122,11 @@ impl EnvelopeReader {
             → result ≢ Err EnvelopeError.Memory }
         ensures short { is_short self ≡ true → result ≡ Err EnvelopeError.Memory }
     {
-        self.stage.finish(self.fed)
+        let EnvelopeReader {
+            alloc: _,
+            stage,
+            fed,
+        } = self;
+        stage.finish(fed)
     }
 }

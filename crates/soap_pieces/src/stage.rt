@@ -23,7 +23,6 @@ use soap_lex::{first_byte, utf8_prefix};
 use std::alloc::Global;
 
 /// How far it has come with what it was fed.
-#[derive(Drop)]
 pub(crate) enum Stage {
     /// Nothing was fed.
     Before,
@@ -37,6 +36,20 @@ pub(crate) enum Stage {
     TooLong,
     /// Memory was wanting.
     Short,
+}
+
+// It's written, and not derived: a value whose drop is derived is taken apart at each place where it may be let go.
+impl Drop for Stage {
+    fn drop(self) {
+        match self {
+            Stage::Before => {}
+            Stage::Root(_, _) => {}
+            Stage::Behind(_) => {}
+            Stage::Refused(_) => {}
+            Stage::TooLong => {}
+            Stage::Short => {}
+        }
+    }
 }
 
 impl Stage {
