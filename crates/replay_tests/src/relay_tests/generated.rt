@@ -5,7 +5,8 @@
 //! what waits, and the packets from there on are delivered, all of them: what was lost before stays lost. No crash is
 //! inside a `send`, so what node 1 accepted is known from the script alone, and with it all that the nodes know in the
 //! end: node 3's inbox has each message, once and in order. Since nothing leaves that inbox, what it had before then
-//! was the beginning of that. A test takes some two seconds, and minutes by `rt try`, which then wants `--seconds 600`.
+//! was the beginning of that. A test takes some two seconds in the gate. By `rt try` it takes minutes, so
+//! `./wsrm --test` has each test play ten scripts in place of a hundred.
 ghost use Rattle.std.specs.Prelude.{◌≤◌};
 
 use crate::relay_tests::stage::play;
@@ -331,8 +332,11 @@ fn play_all(rt: &impl Abort, alloc: Global, first: u64) -> Result<(), Fail>
         sent = sent.saturating_add(verdict.sent);
         failures = failures.saturating_add(verdict.failures);
     }
-    assert!(rt; sent > 900, "{sent} messages were sent");
-    assert!(rt; failures > 300, "{failures} lines failed by a disk");
+    assert!(rt; sent > 9 * SCRIPTS, "{sent} messages were sent");
+    assert!(rt;
+        failures as u64 > 3 * SCRIPTS,
+        "{failures} lines failed by a disk"
+    );
     Ok(())
 }
 
