@@ -127,10 +127,8 @@ pub(crate) fn is_stopped(tables: &Tables, seq: u32) -> bool
         cause: Cause::Operator,
         last: 0,
     };
-    let comes = tables.fits(&close);
-    drop(close);
     match tables.incoming(seq) {
-        Some(_) => !comes,
+        Some(_) => !tables.fits(&close),
         None => false,
     }
 }
@@ -145,10 +143,8 @@ pub(crate) fn has_end(tables: &Tables, seq: u32) -> bool
         cause: Cause::Operator,
         last: 0,
     };
-    let comes = tables.fits(&end);
-    drop(end);
     match tables.incoming(seq) {
-        Some(_) => !comes,
+        Some(_) => !tables.fits(&end),
         None => false,
     }
 }

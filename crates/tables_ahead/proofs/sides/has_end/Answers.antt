@@ -6,7 +6,7 @@ use Rattle.tables_ahead.proofs.sides.has_end.Goals as goal
 
 pub returns-in-Some : goal.returns-in-Some
 returns-in-Some c =
-    ap not c.fits-comes.ensures ∙ ended-shut c.args.tables.now.records c.args.seq _ (sym c.in-Some.ensures)
+    ap not c.fits.ensures ∙ ended-shut c.args.tables.now.records c.args.seq _ (sym c.in-Some.ensures)
 
 pub returns : goal.returns
 returns c =

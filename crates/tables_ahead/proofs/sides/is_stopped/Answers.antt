@@ -6,7 +6,7 @@ use Rattle.tables_ahead.proofs.sides.is_stopped.Goals as goal
 
 pub returns-in-Some : goal.returns-in-Some
 returns-in-Some c =
-    ap not c.fits-comes.ensures ∙ stopped-shut c.args.tables.now.records c.args.seq _ (sym c.in-Some.ensures)
+    ap not c.fits.ensures ∙ stopped-shut c.args.tables.now.records c.args.seq _ (sym c.in-Some.ensures)
 
 pub returns : goal.returns
 returns c =
