@@ -3,6 +3,6 @@ use Rattle.soap_document.proofs.ProfileLemmas.Nests.{rooted_nest, alone_within}
 use Rattle.soap_document.proofs.ProfileLemmas.Resolvers.{broken_is}
 use Rattle.soap_document.proofs.profile.resolver.Resolver.finish.Goals as goal
 
-pub returns-then-self : goal.returns-then-self
-returns-then-self c = λ top h.
-    sym (rooted_nest top ∙ ap alone_within (broken_is c.args.self top [] h c.if-self.true))
+pub returns-then-broken : goal.returns-then-broken
+returns-then-broken c = λ top h.
+    sym (rooted_nest top ∙ ap alone_within (broken_is c.args.self top [] h c.if-broken.true))
