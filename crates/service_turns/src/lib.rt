@@ -6,11 +6,12 @@
 
 pub mod desk;
 pub mod mem;
-mod past;
+pub mod past;
 pub mod traffic;
 pub mod turns;
 
 pub use desk::Desk;
 pub use mem::MemTraffic;
+pub use past::Note;
 pub use traffic::{Event, Packet, Packets, Traffic};
 pub use turns::{Halt, run};

@@ -73,8 +73,8 @@ fn rest<T: Traffic, D: Desk>(traffic: &mut T, desk: &mut D) -> Result<(), Halt<D
     ensures ready { OnOk result (D.ready desk.new) }
 {
     match desk.rest() {
-        Ok(packets) => {
-            post_all(traffic, packets);
+        Ok(due) => {
+            post_all(traffic, due);
             Ok(())
         }
         Err(why) => Err(Halt::Stuck(why)),
@@ -92,9 +92,9 @@ fn serve<T: Traffic, D: Desk>(
     ensures ready { OnOk result (D.ready desk.new) }
 {
     match desk.serve(&mut conn) {
-        Ok(packets) => {
+        Ok(served) => {
             traffic.reply(conn);
-            post_all(traffic, packets);
+            post_all(traffic, served);
             Ok(())
         }
         Err(why) => Err(Halt::Stuck(why)),
@@ -112,27 +112,23 @@ fn tell<T: Traffic, D: Desk>(
     ensures ready { OnOk result (D.ready desk.new) }
 {
     match desk.tell(&mut conn) {
-        Ok(packets) => {
+        Ok(told) => {
             traffic.answer(conn);
-            post_all(traffic, packets);
+            post_all(traffic, told);
             Ok(())
         }
         Err(why) => Err(Halt::Stuck(why)),
     }
 }
 
-fn take<T: Traffic, D: Desk>(
-    traffic: &mut T,
-    desk: &mut D,
-    body: Blob,
-) -> Result<(), Halt<D::Why>>
+fn take<T: Traffic, D: Desk>(traffic: &mut T, desk: &mut D, body: Blob) -> Result<(), Halt<D::Why>>
     requires { D.ready desk.old }
     ensures did { Does D.does desk.old desk.new (T.told traffic.old) (T.told traffic.new) (Heard body) result }
     ensures ready { OnOk result (D.ready desk.new) }
 {
     match desk.take(body) {
-        Ok(packets) => {
-            post_all(traffic, packets);
+        Ok(more) => {
+            post_all(traffic, more);
             Ok(())
         }
         Err(why) => Err(Halt::Stuck(why)),
