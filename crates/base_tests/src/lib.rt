@@ -20,6 +20,8 @@ mod plain;
 #[cfg(test)]
 mod ranges;
 #[cfg(test)]
+mod service;
+#[cfg(test)]
 mod source;
 #[cfg(test)]
 mod twin;
