@@ -1,0 +1,86 @@
+//! Laws of arrival.
+ghost use Rattle.std.specs.Prelude.{◌≡◌, [], Some, codes, false, true};
+ghost use Rattle.record_batch.specs.Sequences.Destinations.{is_over};
+ghost use Rattle.record_batch.specs.Sequences.Find.{acks_to, find_incoming, plain_endpoint};
+ghost use Rattle.record_batch.specs.Sequences.Fits.{all_fit};
+ghost use Rattle.record_batch.specs.Sequences.Idents.{issue};
+ghost use Rattle.rm_protocol.specs.Waiting.{is_waiting, key};
+ghost use Rattle.rm_arrival.specs.Examples.{a_waiting_source, an_open_destination};
+ghost use Rattle.rm_arrival.specs.Round.{AckEndsTheWait, ArrivesInARound, DueIsSaid, HeldIsAcked, WaitEndsForGood};
+ghost use Rattle.rm_arrival.specs.Round.{AckIsTaken, DataIsTaken, FewAreAllEmitted, WaitingHasData};
+ghost use Rattle.rm_arrival.specs.Nodes.{ARoundOfNodes, TakesWhole};
+ghost use Rattle.rm_arrival.specs.Round.{WaitsAreTimely};
+
+/// What is acknowledged waits no more, whatever records come behind.
+pub fn what_is_acknowledged_waits_no_more()
+    ensures { WaitEndsForGood }
+{}
+
+/// An acknowledgement that names the number of a message ends its wait.
+pub fn an_acknowledgement_ends_the_wait()
+    ensures { AckEndsTheWait }
+{}
+
+/// Data that is delivered is held, and what is said to it is one acknowledgement, which names its number.
+pub fn what_is_held_is_acknowledged()
+    ensures { HeldIsAcked }
+{}
+
+/// One message, one round: the message that a tick says for a key, delivered, is held, and the answer, delivered, ends
+/// the wait of that key for good.
+pub fn a_message_arrives_in_a_round()
+    ensures { ArrivesInARound }
+{}
+
+/// A message that waits is there to be sent: its sequence has a peer and an identifier, and its payload is not gone.
+pub fn what_waits_is_there()
+    ensures { WaitingHasData }
+{}
+
+/// Of the keys that a tick emits, each of a message that waits is said as its data.
+pub fn what_is_due_is_said()
+    ensures { DueIsSaid }
+{}
+
+/// Data that a destination can take gets no fault, where its sequence is not ended and the store has room.
+pub fn data_gets_no_fault()
+    ensures { DataIsTaken }
+{}
+
+/// An acknowledgement of a sequence of ours gets none either, where none of its numbers is too great.
+pub fn an_acknowledgement_gets_no_fault()
+    ensures { AckIsTaken }
+{}
+
+/// Where at most 64 keys are due, a tick emits each of them.
+pub fn a_tick_emits_all_of_a_few()
+    ensures { FewAreAllEmitted }
+{}
+
+/// What these laws ask for can be met: a message waits, and the sequence that it is for is open and knows its AcksTo.
+pub fn a_message_that_waits()
+    ensures fit { all_fit [] a_waiting_source ≡ true }
+    ensures waits { is_waiting a_waiting_source (key 1 1) ≡ true }
+    ensures found { find_incoming an_open_destination (issue 2 1) ≡ Some 1 }
+    ensures back { acks_to an_open_destination 1 ≡ Some (plain_endpoint (codes "urn:a")) }
+    ensures open_ { is_over an_open_destination 1 0 ≡ false }
+{}
+
+/// What waits is due within 64 seconds of a node's time, after a mount and after each call: a tick 64 seconds after the
+/// last one finds all of it due.
+pub fn what_waits_is_due_in_64_seconds()
+    ensures { WaitsAreTimely }
+{}
+
+/// A node that stands takes a message without a verdict whole: the records of its rows are there, and what the protocol
+/// says at them is said.
+pub fn a_node_that_stands_takes_a_message()
+    ensures { TakesWhole }
+{}
+
+/// One message, one round, of two nodes that stand and whose stores have room: what a tick says for a key, delivered,
+/// is held, and the one answer, delivered at the node of its source however that stands by then, ends the wait for
+/// good.
+pub fn a_message_arrives_in_a_round_of_nodes()
+    ensures { ARoundOfNodes }
+{}
