@@ -164,14 +164,13 @@ taken-row r t i now q p back found to_back can = by_held (has_number (held r t) 
 
 pub held-acked : (terms : Terms) (r : List Fact) (t i now : ℕ) (y : Behaviour) (q : Text) (to back : Epr) (p : Text)
     → find_incoming r q ≡ Some t → acks_to r t ≡ Some back → CanTake r t i now
-    → IsAcked terms r t i now y q (data_of to q i p)
+    → IsAcked terms r t i now y q back (data_of to q i p)
 held-acked terms r t i now y q to back p found to_back can =
     let d = rows terms now y (data_of to q i p) r in
     let took : Taken r d t i q back p =
     subst (λ z. Taken r z t i q back p) (sym (data-rows terms r t i now y q p to found))
     (taken-row r t i now q p back found to_back can) in
     record {
-      to = back;
       block = block_of (r ++ d) t q now;
       has = took.0;
       says = says-data (r ++ d) now t i q p to back took.1 took.2;
@@ -211,15 +210,15 @@ arrives terms a b s t i now y q back m ident said_ found to_back can =
     (of_data (data_of form.to q (suc i) form.text)
     (held-acked terms b t (suc i) now y q form.to back form.text found to_back can))
   where
-    of_data : (x : Message) → IsAcked terms b t (suc i) now y q x → Arrives terms b s t i now y q x
+    of_data : (x : Message) → IsAcked terms b t (suc i) now y q back x → Arrives terms b s t i now y q x
     of_data x it = record {
-      answer = ack_message it.to (it.block ∷ []);
+      answer = ack_message back (it.block ∷ []);
       has = it.has;
       says = it.says;
       ends = λ c later z known d.
-          has-silent ((c ++ rows terms later z (ack_message it.to (it.block ∷ [])) c) ++ d) s i
-          (has-stays (c ++ rows terms later z (ack_message it.to (it.block ∷ [])) c) d s (suc i)
-          (subst (λ w. Has w s (suc i)) (sym (ack-rows terms c later z it.to it.block))
+          has-silent ((c ++ rows terms later z (ack_message back (it.block ∷ [])) c) ++ d) s i
+          (has-stays (c ++ rows terms later z (ack_message back (it.block ∷ [])) c) d s (suc i)
+          (subst (λ w. Has w s (suc i)) (sym (ack-rows terms c later z back it.block))
           (has-stays (c ++ ack_row it.block c) (final_row it.block (c ++ ack_row it.block c)) s (suc i)
           (ack_row-has c it.block s (suc i) (ap (λ w. find_outgoing c w) it.ident ∙ known) it.names))));
     }

@@ -1,5 +1,5 @@
 -- Why nothing stands against data and against acknowledgements.
-use Rattle.std.proofs.Common.{◌≡◌, ℕ, ◌&&◌, ◌||◌, not, Bool, true, false, List, [], ◌∷◌, refl, ap, ◌∙◌, inl}
+use Rattle.std.proofs.Common.{◌≡◌, ℕ, ◌&&◌, ◌||◌, not, cond, Bool, true, false, List, [], ◌∷◌, refl, ap, ◌∙◌, inl}
 use Rattle.std.proofs.Common.{inr}
 use Rattle.std.specs.Prelude.{Some, None, is_none, is_some}
 use Rattle.rm_base.specs.NumberSet.{has_number}
@@ -30,6 +30,15 @@ no-test : (a b c d e f g h i : Bool) → a ≡ false → b ≡ false → c ≡ f
     ≡ None
 no-test a b c d e f g h i ea eb ec ed ee ef eg eh ei = rw (ea, eb, ec, ed, ee, ef, eg, eh, ei) refl
 
+-- where none but want of room holds
+one-test : (a b c d e f g h i : Bool) → a ≡ false → b ≡ false → c ≡ false → d ≡ false → e ≡ false → f ≡ false
+    → g ≡ false → h ≡ false
+    → first_held ((a, WsrmRequired) ∷ (b, UnknownSequence) ∷ (c, SequenceTerminated) ∷ (d, SequenceClosed)
+    ∷ (e, InvalidAcknowledgement) ∷ (f, CreateSequenceRefused) ∷ (g, MissingSelection) ∷ (h, UnsupportedSelection)
+    ∷ (i, StoreFull) ∷ [])
+    ≡ cond i (Some StoreFull) None
+one-test a b c d e f g h i ea eb ec ed ee ef eg eh = rw (ea, eb, ec, ed, ee, ef, eg, eh) refl
+
 none-shut : (b : Bool) → (b && false) ≡ false
 none-shut true = refl
 none-shut false = refl
@@ -57,3 +66,22 @@ pub ack-taken : (terms : Terms) (r : List Fact) (end s now : ℕ) (y : Behaviour
 ack-taken terms r end s now y to block found valid room =
     no-test _ _ _ _ _ _ _ _ _ refl (ap (λ x. not ((is_some x || false) || false)) found) refl refl
     (ap (λ b. b || false) valid) refl refl refl (ap not room)
+
+-- ---- where only want of room can stand against it
+
+pub data-verdict : (terms : Terms) (r : List Fact) (end t i now : ℕ) (y : Behaviour) (q : Text) (to : Epr) (p : Text)
+    → find_incoming r q ≡ Some t → is_ended r t now ≡ false → CanTake r t i now
+    → verdict terms r end now y (data_of to q i p)
+    ≡ cond (not (has_room terms end (rows terms now y (data_of to q i p) r))) (Some StoreFull) None
+data-verdict terms r end t i now y q to p found going can =
+    one-test _ _ _ _ _ _ _ _ _ refl (ap (λ x. is_none x || false) found)
+    (ap (is_ended_at r now) found ∙ going)
+    (ap (is_shut_at r now i) found ∙ open-or-held r t i now can) refl refl refl refl
+
+pub ack-verdict : (terms : Terms) (r : List Fact) (end s now : ℕ) (y : Behaviour) (to : Epr) (block : AckBlock)
+    → find_outgoing r block.ident ≡ Some s → is_invalid r block ≡ false
+    → verdict terms r end now y (ack_message to (block ∷ []))
+    ≡ cond (not (has_room terms end (rows terms now y (ack_message to (block ∷ [])) r))) (Some StoreFull) None
+ack-verdict terms r end s now y to block found valid =
+    one-test _ _ _ _ _ _ _ _ _ refl (ap (λ x. not ((is_some x || false) || false)) found) refl refl
+    (ap (λ b. b || false) valid) refl refl refl

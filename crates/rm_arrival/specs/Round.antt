@@ -42,12 +42,12 @@ abbrev pub CanTake : List Fact → ℕ → ℕ → ℕ → Type 0
 CanTake r t i now =
     (has_number (held r t) i ≡ true) ⊎ ((is_over r t now ≡ false) × (i ≤ front r t + limits.window))
 
--- what comes of data at its destination: the number is held, and one acknowledgement is said, which names it
-pub record IsAcked (terms : Terms) (r : List Fact) (t i now : ℕ) (y : Behaviour) (q : Text) (m : Message) : Type 0 where
-  pub to : Epr
+-- what comes of data at its destination: the number is held, and one acknowledgement is said to AcksTo, which names it
+pub record IsAcked (terms : Terms) (r : List Fact) (t i now : ℕ) (y : Behaviour) (q : Text) (back : Epr) (m : Message)
+    : Type 0 where
   pub block : AckBlock
   pub has : has_number (held (r ++ rows terms now y m r) t) i ≡ true
-  pub says : said (r ++ rows terms now y m r) now m ≡ ack_message to (block ∷ []) ∷ []
+  pub says : said (r ++ rows terms now y m r) now m ≡ ack_message back (block ∷ []) ∷ []
   pub ident : block.ident ≡ q
   pub names : in_ranges (ranges_of block.kind) i ≡ true
 
@@ -56,7 +56,7 @@ abbrev pub HeldIsAcked : Type 0
 HeldIsAcked =
     (terms : Terms) (r : List Fact) (t i now : ℕ) (y : Behaviour) (q : Text) (to back : Epr) (p : Text)
     → find_incoming r q ≡ Some t → acks_to r t ≡ Some back → CanTake r t i now
-    → IsAcked terms r t i now y q (data_of to q i p)
+    → IsAcked terms r t i now y q back (data_of to q i p)
 
 -- the message of a key that was delivered, and its answer, which was delivered at the records that the source had then
 pub record Arrives (terms : Terms) (b : List Fact) (s t i now : ℕ) (y : Behaviour) (q : Text) (m : Message)

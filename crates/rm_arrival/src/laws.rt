@@ -8,8 +8,17 @@ ghost use Rattle.rm_protocol.specs.Waiting.{is_waiting, key};
 ghost use Rattle.rm_arrival.specs.Examples.{a_waiting_source, an_open_destination};
 ghost use Rattle.rm_arrival.specs.Round.{AckEndsTheWait, ArrivesInARound, DueIsSaid, HeldIsAcked, WaitEndsForGood};
 ghost use Rattle.rm_arrival.specs.Round.{AckIsTaken, DataIsTaken, FewAreAllEmitted, WaitingHasData};
+ghost use Rattle.rm_arrival.specs.Fair.{ARoundBrings};
+ghost use Rattle.rm_arrival.specs.Few.{ARoundBringsAFew};
 ghost use Rattle.rm_arrival.specs.Nodes.{ARoundOfNodes, TakesWhole};
 ghost use Rattle.rm_arrival.specs.Round.{WaitsAreTimely};
+
+use record_batch::snapshot::numbers_are_from_one;
+use rm_protocol::laws::{
+    each_record_may_come_next, every_step_keeps_the_agreement, records_leave_other_keys,
+};
+use rm_sides::destination::laws::front_is_reached;
+use rm_sides::ranges::union_has_both;
 
 /// What is acknowledged waits no more, whatever records come behind.
 pub fn what_is_acknowledged_waits_no_more()
@@ -84,3 +93,29 @@ pub fn a_node_that_stands_takes_a_message()
 pub fn a_message_arrives_in_a_round_of_nodes()
     ensures { ARoundOfNodes }
 {}
+
+/// A message that a tick of a fair round emits is acknowledged at the end of the round, whatever was lost before, where
+/// it is within the window and its sequence is open then.
+pub fn a_fair_round_brings_a_message()
+    ensures { ARoundBrings }
+{
+    every_step_keeps_the_agreement();
+    each_record_may_come_next();
+    records_leave_other_keys();
+    numbers_are_from_one();
+    front_is_reached();
+    union_has_both();
+}
+
+/// Where at most 64 keys are due at a side, all that its source had accepted is acknowledged at the end of one fair
+/// round.
+pub fn a_fair_round_brings_a_few()
+    ensures { ARoundBringsAFew }
+{
+    every_step_keeps_the_agreement();
+    each_record_may_come_next();
+    records_leave_other_keys();
+    numbers_are_from_one();
+    front_is_reached();
+    union_has_both();
+}
