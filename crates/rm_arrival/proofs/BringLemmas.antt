@@ -116,6 +116,14 @@ tick-others terms r end now s i keys h =
       | false ↦ tt
     ]
 
+-- what waits, waits on after a tick
+pub tick-waits : OthersWaitOn → EachMayComeNext → (terms : Terms) (r : List Fact) (end now s i : ℕ) (keys : List Key)
+    → AreTerms terms → all_fit [] r ≡ true → is_waiting r (key s i) ≡ true
+    → is_waiting (r ++ (tick_with terms r end now keys).delta) (key s i) ≡ true
+tick-waits wait_on next terms r end now s i keys t fit waits =
+    wait_on r (tick_with terms r end now keys).delta (key s i) ((next terms r end t.deadline fit).tick_ now keys)
+    (tick-others terms r end now s i keys waits) waits
+
 -- the data of a message to an endpoint
 record IsDataTo (to : Epr) (q : Text) (i : ℕ) (m : Message) : Type 0 where
   text : Text
@@ -127,7 +135,7 @@ data-is to q i (Some x) m h = record { text = x; is = cc (h) }
 data-is to q i None m h = absurd (cc (h))
 
 -- the answer of a node's tick
-abbrev tick_of : Terms → Node → ℕ → Answer
+abbrev pub tick_of : Terms → Node → ℕ → Answer
 tick_of terms x now = tick terms (records x) (node_end terms x) now x.time x.waits
 
 -- the data of message i is said
@@ -146,9 +154,7 @@ node-says wait_on next terms x now s i to q t fit more peer_ known waits due =
     let end = node_end terms x in
     let keys = first_due (max x.time now) x.waits in
     let d = (tick_with terms r end now keys).delta in
-    let still : is_waiting (r ++ d) (key s (suc i)) ≡ true =
-    wait_on r d (key s (suc i)) ((next terms r end t.deadline fit).tick_ now keys)
-    (tick-others terms r end now s (suc i) keys waits) waits in
+    let still = tick-waits wait_on next terms r end now s (suc i) keys t fit waits in
     let it = due-said (r ++ d) s i keys more still due in
     let m = data_of it.0.to it.0.ident (suc i) it.0.text in
     let here : data_by (Some to) (Some q) (suc i) (payload_at (r ++ d) s (suc i)) ≡ Some m =

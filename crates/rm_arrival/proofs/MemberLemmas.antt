@@ -21,7 +21,7 @@ in-behind xs ys x h = record {
   are = ap (λ z. xs ++ z) h.are ∙ sym (append_assoc xs h.before (x ∷ h.behind));
 }
 
-filter-join : {A : Type 0} (f : A → Bool) (xs ys : List A) → filter f (xs ++ ys) ≡ filter f xs ++ filter f ys
+pub filter-join : {A : Type 0} (f : A → Bool) (xs ys : List A) → filter f (xs ++ ys) ≡ filter f xs ++ filter f ys
 filter-join f [] ys = refl
 filter-join f (x ∷ xs) ys =
     let rest : filter f (xs ++ ys) ≡ filter f xs ++ filter f ys = filter-join f xs ys in

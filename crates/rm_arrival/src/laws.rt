@@ -12,10 +12,13 @@ ghost use Rattle.rm_arrival.specs.Fair.{ARoundBrings};
 ghost use Rattle.rm_arrival.specs.Few.{ARoundBringsAFew};
 ghost use Rattle.rm_arrival.specs.Nodes.{ARoundOfNodes, TakesWhole};
 ghost use Rattle.rm_arrival.specs.Round.{WaitsAreTimely};
+ghost use Rattle.rm_arrival.specs.Runs.{AFewArrive, EachRunWaitsRight};
 
 use record_batch::snapshot::numbers_are_from_one;
 use rm_protocol::laws::{
-    each_record_may_come_next, every_step_keeps_the_agreement, records_leave_other_keys,
+    each_record_may_come_next, every_run_keeps_the_word, every_step_keeps_the_agreement,
+    only_what_was_heard_is_recorded, records_leave_other_keys, what_begins_waits,
+    what_waits_is_exact_in_short, what_waits_stays_exact,
 };
 use rm_sides::destination::laws::front_is_reached;
 use rm_sides::ranges::union_has_both;
@@ -113,6 +116,37 @@ pub fn a_fair_round_brings_a_few()
     ensures { ARoundBringsAFew }
 {
     every_step_keeps_the_agreement();
+    each_record_may_come_next();
+    records_leave_other_keys();
+    numbers_are_from_one();
+    front_is_reached();
+    union_has_both();
+}
+
+/// In each world of a run, the keys that wait at a node that is up are those of its records, and each is due within 64
+/// seconds of the node's time.
+pub fn each_run_waits_right()
+    ensures { EachRunWaitsRight }
+{
+    every_step_keeps_the_agreement();
+    what_waits_stays_exact();
+    what_waits_is_exact_in_short();
+    what_begins_waits();
+    only_what_was_heard_is_recorded();
+}
+
+/// From each world that a script reaches in which both nodes stand, whatever was lost, repeated and reordered before
+/// and whoever crashed: all that a source had accepted has arrived at the end of one fair round, where at most 64 keys
+/// wait at its node, all of them due and none past the window, and the sequence is open then.
+pub fn what_was_accepted_arrives()
+    ensures { AFewArrive }
+{
+    every_run_keeps_the_word();
+    every_step_keeps_the_agreement();
+    what_waits_stays_exact();
+    what_waits_is_exact_in_short();
+    what_begins_waits();
+    only_what_was_heard_is_recorded();
     each_record_may_come_next();
     records_leave_other_keys();
     numbers_are_from_one();

@@ -1,0 +1,54 @@
+-- What waits in the worlds of a run, and what one fair round brings from each world that a script reaches.
+use Rattle.std.specs.Prelude.{◌≡◌, ℕ, ◌+◌, ◌<◌, ◌≤◌, true, List, length}
+use Rattle.std.specs.List.{AllByRecursion}
+use Rattle.rm_base.specs.Limits as limits
+use Rattle.rm_base.specs.NumberSet.{has_number}
+use Rattle.rm_base.specs.declared.message.Behaviour.TheVariants.{FollowingFirstGap}
+use Rattle.timers.specs.Keys.Waits.{due_at, most_emitted}
+use Rattle.record_batch.specs.Sequences.Words.{Text}
+use Rattle.record_batch.specs.Sequences.Sources.{accepted_count, is_sending, phase}
+use Rattle.record_batch.specs.Sequences.Destinations.{behaviour, front, held, inbox}
+use Rattle.rm_protocol.specs.Exact.{AreExactly}
+use Rattle.rm_protocol.specs.Node.{Node, Up, records}
+use Rattle.rm_protocol.specs.Terms.{AreTerms, Terms}
+use Rattle.rm_protocol.specs.World.{AreMade, Event, Side, World, node, other, run, start}
+use Rattle.rm_arrival.specs.Fair.{BothStand, IsFair, IsOpen, IsReached, moment}
+use Rattle.rm_arrival.specs.Few.{AllAcked}
+use Rattle.rm_arrival.specs.Round.{IsTimely}
+
+-- at a node that is up the keys that wait are those that wait by its records; and each is in a class up to 6, and due
+-- within 64 seconds of the node's time
+pub record WaitsRight (x : Node) : Type 0 where
+  pub exact : x.state ≡ Up → AreExactly (records x) x.waits
+  pub timely : AllByRecursion (IsTimely x.time) x.waits
+
+-- so it is in each world of a run
+abbrev pub EachRunWaitsRight : Type 0
+EachRunWaitsRight =
+    (terms : Terms) (one two : Text) → AreTerms terms → AreMade terms one two → (events : List Event) (side : Side)
+    → WaitsRight (node (run terms events (start one two)) side)
+
+-- of all that source s of a side had accepted before: it is acknowledged, destination t of the other side holds it, and
+-- in a sequence with DiscardFollowingFirstGap it is all in the inbox
+pub record HasArrived (then now : World) (side : Side) (s t : ℕ) : Type 0 where
+  pub acked_ : AllAcked then now side s
+  pub held_ : (i : ℕ) → 0 < i → i ≤ accepted_count (records (node then side)) s
+      → has_number (held (records (node now (other side))) t) i ≡ true
+  pub released : behaviour (records (node now (other side))) t ≡ FollowingFirstGap
+      → accepted_count (records (node then side)) s ≤ length (inbox (records (node now (other side))) t)
+
+-- From each world that a script reaches in which both nodes stand: all that a source had accepted has arrived at the
+-- end of one fair round, whose ticks come 64 seconds after the last ones or later, where at most 64 keys wait at its
+-- node, none of its numbers is past the window, and the sequence is open then.
+abbrev pub AFewArrive : Type 0
+AFewArrive =
+    (terms : Terms) (one two : Text) → AreTerms terms → AreMade terms one two → (events round : List Event)
+    → BothStand (run terms events (start one two)) → (fair : IsFair terms (run terms events (start one two)) round)
+    → (side : Side) (s t : ℕ) → IsReached (run terms events (start one two)) side s t
+    → is_sending (phase (records (node (run terms events (start one two)) side)) s) ≡ true
+    → (node (run terms events (start one two)) side).time + 64000 ≤ moment fair side
+    → length (due_at (moment fair side) (node (run terms events (start one two)) side).waits) ≤ most_emitted
+    → accepted_count (records (node (run terms events (start one two)) side)) s
+    ≤ front (records (node (run terms events (start one two)) (other side))) t + limits.window
+    → IsOpen (records (node (run terms round (run terms events (start one two))) (other side))) t
+    → HasArrived (run terms events (start one two)) (run terms round (run terms events (start one two))) side s t
