@@ -180,10 +180,10 @@ EachRunKeeps =
 pub arrived : EachRunKeeps → StaysSound → NumbersAreFromOne → FrontIsReached → (terms : Terms) (one two : Text)
     → AreTerms terms → AreMade terms one two → (events more : List Event) (side : Side) (s u : ℕ)
     → IsReached (run terms events (start one two)) side s u
-    → Onward (run terms events (start one two)) (run terms more (run terms events (start one two)))
-    → AllAcked (run terms events (start one two)) (run terms more (run terms events (start one two))) side s
-    → HasArrived (run terms events (start one two)) (run terms more (run terms events (start one two))) side s u
-arrived word sound_ from reached terms one two t made events more side s u at on acked_ =
+    → Onward (run terms events (start one two)) (run terms more (run terms events (start one two))) → (n : ℕ)
+    → AllAcked (run terms more (run terms events (start one two))) side s n
+    → HasArrived (run terms more (run terms events (start one two))) side s u n
+arrived word sound_ from reached terms one two t made events more side s u at on n acked_ =
     let w = run terms events (start one two) in
     let v = run terms more w in
     let o = other side in
@@ -206,8 +206,7 @@ arrived word sound_ from reached terms one two t made events more side s u at on
     } in
     let keeps : KeepsAll v =
     subst KeepsAll (run-join terms events more (start one two)) (word terms one two t made (events ++ more)) in
-    let holds : (i : ℕ) → 0 < i → i ≤ accepted_count (records (node w side)) s
-    → has_number (held (records (node v o)) u) i ≡ true =
+    let holds : (i : ℕ) → 0 < i → i ≤ n → has_number (held (records (node v o)) u) i ≡ true =
     λ i above le. (word-at v side keeps on.stand).held s u match i (acked_ i above le) in
     let last : all_fit [] (records (node v o)) ≡ true =
     subst (λ z. all_fit [] (records (node z o)) ≡ true) (run-join terms events more (start one two))
@@ -216,18 +215,17 @@ arrived word sound_ from reached terms one two t made events more side s u at on
     record {
       acked_ = acked_;
       held_ = holds;
-      released = λ e.
-          in-inbox from reached (records (node v o)) u (accepted_count (records (node w side)) s) last holds e;
+      released = λ e. in-inbox from reached (records (node v o)) u n last holds e;
     }
 
 pub few-arrive : WaitLaws → EachRunKeeps → StaysSound → EachMayComeNext → OthersWaitOn → NumbersAreFromOne
     → FrontIsReached → UnionHasBoth → AFewArrive
 few-arrive laws word sound_ next wait_on from reached both terms one two t made events round stand fair side s u at
-    sends late few near open_ =
+    sends late few n below near open_ =
     let w = run terms events (start one two) in
     let sound = each-sound sound_ terms one two t made events in
     let right = each-right laws sound_ terms one two t made events side in
     arrived word sound_ from reached terms one two t made events round side s u at
-    (round-onward terms w round stand fair)
+    (round-onward terms w round stand fair) n
     (few-brought sound_ next wait_on from reached both terms w round t sound stand fair side s u at sends
-    (few-due (node w side) (moment fair side) right (stand side) late few) near open_)
+    (few-due (node w side) (moment fair side) right (stand side) late few) n below near open_)

@@ -43,7 +43,7 @@ waits-by r s i to _ e h = absurd (cc (e))
 all-three : (x y z : Bool) → x ≡ true → y ≡ true → z ≡ false → (x && (y && not z)) ≡ true
 all-three x y z ex ey ez = rw (ex, ey, ez) refl
 
-waits-else : (r : List Fact) (s i : ℕ) (to : Epr) → peer r s ≡ Some to → is_sending (phase r s) ≡ true
+pub waits-else : (r : List Fact) (s i : ℕ) (to : Epr) → peer r s ≡ Some to → is_sending (phase r s) ≡ true
     → suc i ≤ accepted_count r s → (Has r s (suc i)) ⊎ (is_waiting r (key s (suc i)) ≡ true)
 waits-else r s i to e sends le =
     elim (in_ranges (united [] (acked r s)) (suc i)) as (λ b. in_ranges (united [] (acked r s)) (suc i) ≡ b
@@ -57,15 +57,15 @@ waits-else r s i to e sends le =
 -- ---- what waits is emitted
 
 -- where the key stands
-record Stood (now : ℕ) (k : Key) (waits : List Wait) : Type 0 where
-  before : List Wait
-  w : Wait
-  behind : List Wait
-  are : waits ≡ before ++ w ∷ behind
-  is : w.key ≡ k
-  due : IsDueAt now w
+pub record Stood (now : ℕ) (k : Key) (waits : List Wait) : Type 0 where
+  pub before : List Wait
+  pub w : Wait
+  pub behind : List Wait
+  pub are : waits ≡ before ++ w ∷ behind
+  pub is : w.key ≡ k
+  pub due : IsDueAt now w
 
-stood : (now : ℕ) (k : Key) (waits : List Wait) → AllByRecursion (IsDueAt now) waits
+pub stood : (now : ℕ) (k : Key) (waits : List Wait) → AllByRecursion (IsDueAt now) waits
     → has_key (keys_of waits) k ≡ true → Stood now k waits
 stood now k [] all h = absurd (cc (h))
 stood now k (w ∷ waits) all h =
@@ -102,11 +102,11 @@ emitted-of-few now k waits all few h =
 
 pub few-brought : StaysSound → EachMayComeNext → OthersWaitOn → NumbersAreFromOne → FrontIsReached → UnionHasBoth
     → ARoundBringsAFew
-few-brought sound_ next wait_on from reached both terms w events t sound stand fair side s u at sends few near open_
-    zero above le = absurd (omega (arith, above))
-few-brought sound_ next wait_on from reached both terms w events t sound stand fair side s u at sends few near open_
-    (suc i) above le =
-    elim (waits-else (records (node w side)) s i at.to at.peer_ sends le) [
+few-brought sound_ next wait_on from reached both terms w events t sound stand fair side s u at sends few n
+    below near open_ zero above le = absurd (omega (arith, above))
+few-brought sound_ next wait_on from reached both terms w events t sound stand fair side s u at sends few n
+    below near open_ (suc i) above le =
+    elim (waits-else (records (node w side)) s i at.to at.peer_ sends (omega (arith, le, below))) [
       | inl has ↦ round-keeps sound_ both terms w events t sound stand fair side s (suc i) has
       | inr waits ↦
           let now = time_at (node w side) (moment fair side) in

@@ -176,7 +176,7 @@ arrives-onward terms w None h e = onward-refl w h
 arrives-onward terms w (Some p) h e =
     calls-onward terms w (other p.from) true (received_by terms (node w (other p.from)) (terms.read p.message)) h e
 
-step-onward : (terms : Terms) (w : World) (event : Event) → IsOfRound event → BothStand w
+pub step-onward : (terms : Terms) (w : World) (event : Event) → IsOfRound event → BothStand w
     → (happens terms w event).packets ≡ (happens (endless terms) w event).packets → Onward w (happens terms w event)
 step-onward terms w (Tick side now) r h e = tick-onward terms w side now h e
 step-onward terms w (Deliver k) r h e = arrives-onward terms w (numbered w.packets k) h e

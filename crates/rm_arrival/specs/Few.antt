@@ -28,19 +28,18 @@ pub record AreFewDue (x : Node) (now : ℕ) : Type 0 where
 abbrev pub time_at : Node → ℕ → ℕ
 time_at x now = max x.time now
 
--- each number that source s had accepted before is acknowledged
-abbrev pub AllAcked : World → World → Side → ℕ → Type 0
-AllAcked then now side s =
-    (i : ℕ) → 0 < i → i ≤ accepted_count (records (node then side)) s
-    → in_ranges (acked (records (node now side)) s) i ≡ true
+-- the first n messages of source s are acknowledged
+abbrev pub AllAcked : World → Side → ℕ → ℕ → Type 0
+AllAcked w side s n = (i : ℕ) → 0 < i → i ≤ n → in_ranges (acked (records (node w side)) s) i ≡ true
 
--- all that a source had accepted is acknowledged at the end of one round, where at most 64 keys are due at its node,
--- none of its numbers is past the window, and the sequence is open then
+-- what a source had accepted, up to the end of the window, is acknowledged at the end of one round, where at most 64
+-- keys are due at its node and the sequence is open then
 abbrev pub ARoundBringsAFew : Type 0
 ARoundBringsAFew =
     (terms : Terms) (w : World) (events : List Event) → AreTerms terms → IsSound terms w → BothStand w
     → (fair : IsFair terms w events) → (side : Side) (s t : ℕ) → IsReached w side s t
     → is_sending (phase (records (node w side)) s) ≡ true
     → AreFewDue (node w side) (time_at (node w side) (moment fair side))
-    → accepted_count (records (node w side)) s ≤ front (records (node w (other side))) t + limits.window
-    → IsOpen (records (node (run terms events w) (other side))) t → AllAcked w (run terms events w) side s
+    → (n : ℕ) → n ≤ accepted_count (records (node w side)) s
+    → n ≤ front (records (node w (other side))) t + limits.window
+    → IsOpen (records (node (run terms events w) (other side))) t → AllAcked (run terms events w) side s n

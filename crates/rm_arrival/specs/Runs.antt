@@ -28,18 +28,17 @@ EachRunWaitsRight =
     (terms : Terms) (one two : Text) → AreTerms terms → AreMade terms one two → (events : List Event) (side : Side)
     → WaitsRight (node (run terms events (start one two)) side)
 
--- of all that source s of a side had accepted before: it is acknowledged, destination t of the other side holds it, and
--- in a sequence with DiscardFollowingFirstGap it is all in the inbox
-pub record HasArrived (then now : World) (side : Side) (s t : ℕ) : Type 0 where
-  pub acked_ : AllAcked then now side s
-  pub held_ : (i : ℕ) → 0 < i → i ≤ accepted_count (records (node then side)) s
-      → has_number (held (records (node now (other side))) t) i ≡ true
-  pub released : behaviour (records (node now (other side))) t ≡ FollowingFirstGap
-      → accepted_count (records (node then side)) s ≤ length (inbox (records (node now (other side))) t)
+-- of the first n messages of source s of a side: they are acknowledged, destination t of the other side holds them, and
+-- in a sequence with DiscardFollowingFirstGap they are in the inbox
+pub record HasArrived (w : World) (side : Side) (s t n : ℕ) : Type 0 where
+  pub acked_ : AllAcked w side s n
+  pub held_ : (i : ℕ) → 0 < i → i ≤ n → has_number (held (records (node w (other side))) t) i ≡ true
+  pub released : behaviour (records (node w (other side))) t ≡ FollowingFirstGap
+      → n ≤ length (inbox (records (node w (other side))) t)
 
--- From each world that a script reaches in which both nodes stand: all that a source had accepted has arrived at the
--- end of one fair round, whose ticks come 64 seconds after the last ones or later, where at most 64 keys wait at its
--- node, none of its numbers is past the window, and the sequence is open then.
+-- From each world that a script reaches in which both nodes stand: what a source had accepted, up to the end of the
+-- window, has arrived at the end of one fair round, whose ticks come 64 seconds after the last ones or later, where at
+-- most 64 keys wait at its node and the sequence is open then.
 abbrev pub AFewArrive : Type 0
 AFewArrive =
     (terms : Terms) (one two : Text) → AreTerms terms → AreMade terms one two → (events round : List Event)
@@ -48,7 +47,7 @@ AFewArrive =
     → is_sending (phase (records (node (run terms events (start one two)) side)) s) ≡ true
     → (node (run terms events (start one two)) side).time + 64000 ≤ moment fair side
     → length (due_at (moment fair side) (node (run terms events (start one two)) side).waits) ≤ most_emitted
-    → accepted_count (records (node (run terms events (start one two)) side)) s
-    ≤ front (records (node (run terms events (start one two)) (other side))) t + limits.window
+    → (n : ℕ) → n ≤ accepted_count (records (node (run terms events (start one two)) side)) s
+    → n ≤ front (records (node (run terms events (start one two)) (other side))) t + limits.window
     → IsOpen (records (node (run terms round (run terms events (start one two))) (other side))) t
-    → HasArrived (run terms events (start one two)) (run terms round (run terms events (start one two))) side s t
+    → HasArrived (run terms round (run terms events (start one two))) side s t n

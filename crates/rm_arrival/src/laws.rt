@@ -12,6 +12,7 @@ ghost use Rattle.rm_arrival.specs.Fair.{ARoundBrings};
 ghost use Rattle.rm_arrival.specs.Few.{ARoundBringsAFew};
 ghost use Rattle.rm_arrival.specs.Nodes.{ARoundOfNodes, TakesWhole};
 ghost use Rattle.rm_arrival.specs.Round.{WaitsAreTimely};
+ghost use Rattle.rm_arrival.specs.Rounds.{EachHasItsTurn, EachMessageArrives};
 ghost use Rattle.rm_arrival.specs.Runs.{AFewArrive, EachRunWaitsRight};
 
 use record_batch::snapshot::numbers_are_from_one;
@@ -110,8 +111,8 @@ pub fn a_fair_round_brings_a_message()
     union_has_both();
 }
 
-/// Where at most 64 keys are due at a side, all that its source had accepted is acknowledged at the end of one fair
-/// round.
+/// Where at most 64 keys are due at a side, what its source had accepted, up to the end of the window, is acknowledged
+/// at the end of one fair round.
 pub fn a_fair_round_brings_a_few()
     ensures { ARoundBringsAFew }
 {
@@ -136,10 +137,46 @@ pub fn each_run_waits_right()
 }
 
 /// From each world that a script reaches in which both nodes stand, whatever was lost, repeated and reordered before
-/// and whoever crashed: all that a source had accepted has arrived at the end of one fair round, where at most 64 keys
-/// wait at its node, all of them due and none past the window, and the sequence is open then.
+/// and whoever crashed: what a source had accepted, up to the end of the window, has arrived at the end of one fair
+/// round, where at most 64 keys wait at its node, all of them due, and the sequence is open then.
 pub fn what_was_accepted_arrives()
     ensures { AFewArrive }
+{
+    every_run_keeps_the_word();
+    every_step_keeps_the_agreement();
+    what_waits_stays_exact();
+    what_waits_is_exact_in_short();
+    what_begins_waits();
+    only_what_was_heard_is_recorded();
+    each_record_may_come_next();
+    records_leave_other_keys();
+    numbers_are_from_one();
+    front_is_reached();
+    union_has_both();
+}
+
+/// Each key has its turn: after enough fair rounds what a source had accepted, up to the end of the window, is
+/// acknowledged, however many keys wait at its node, where its sequence is open.
+pub fn each_key_has_its_turn()
+    ensures { EachHasItsTurn }
+{
+    every_step_keeps_the_agreement();
+    what_waits_stays_exact();
+    what_waits_is_exact_in_short();
+    what_begins_waits();
+    only_what_was_heard_is_recorded();
+    each_record_may_come_next();
+    records_leave_other_keys();
+    numbers_are_from_one();
+    front_is_reached();
+    union_has_both();
+}
+
+/// From each world that a script reaches in which both nodes stand, whatever was lost, repeated and reordered before
+/// and whoever crashed: what a source had accepted, up to the end of the window, has arrived after enough fair rounds,
+/// where its sequence is open.
+pub fn each_message_arrives()
+    ensures { EachMessageArrives }
 {
     every_run_keeps_the_word();
     every_step_keeps_the_agreement();

@@ -1,0 +1,74 @@
+-- Fair rounds one after the other: each key has its turn, however many wait.
+use Rattle.std.specs.Prelude.{◌≡◌, ℕ, ◌+◌, ◌-◌, ◌*◌, ◌<◌, ◌≤◌, true, List, [], ◌∷◌, length, Some}
+use Rattle.std.specs.List.{AllByRecursion}
+use Rattle.rm_base.specs.Limits as limits
+use Rattle.rm_base.specs.Numbered.{numbered}
+use Rattle.rm_base.specs.NumberSet.{has_number}
+use Rattle.rm_message.specs.declared.elements.header.AckBlock.{AckBlock}
+use Rattle.record_batch.specs.Sequences.Words.{Text}
+use Rattle.record_batch.specs.Sequences.Sources.{accepted_count, is_sending, phase}
+use Rattle.record_batch.specs.Sequences.Destinations.{front}
+use Rattle.rm_protocol.specs.Node.{records}
+use Rattle.rm_protocol.specs.Sound.{IsSound}
+use Rattle.rm_protocol.specs.Terms.{AreTerms, Terms}
+use Rattle.rm_protocol.specs.Waiting.{nacked_of}
+use Rattle.rm_protocol.specs.World.{AreMade, Event, Packet, Side, World, node, other, run, start}
+use Rattle.rm_arrival.specs.Fair.{BothStand, IsFair, IsOpen, IsReached, moment}
+use Rattle.rm_arrival.specs.Few.{AllAcked}
+use Rattle.rm_arrival.specs.Runs.{HasArrived, WaitsRight}
+
+-- the block says of no number that it is missing
+abbrev pub NamesNoneMissing : AckBlock → Type 0
+NamesNoneMissing block = nacked_of block.kind ≡ []
+
+-- none of the packets with these numbers has a Nack, by which a key would be wanted before its turn
+abbrev pub AreQuiet : List Packet → List ℕ → Type 0
+AreQuiet packets numbers =
+    (k : ℕ) (p : Packet) → has_number numbers k ≡ true → numbered packets k ≡ Some p
+    → AllByRecursion NamesNoneMissing p.message.acks
+
+-- one of several rounds: it is fair, and no Nack comes in it; its ticks come 64 seconds after the last ones or later;
+-- source s of the side sends when it begins, and destination t of the other side is open when it ends
+pub record IsTurn (terms : Terms) (w : World) (round : List Event) (side : Side) (s t : ℕ) : Type 0 where
+  pub fair : IsFair terms w round
+  pub quiet : AreQuiet (run terms round w).packets fair.numbers
+  pub late : (node w side).time + 64000 ≤ moment fair side
+  pub sends : is_sending (phase (records (node w side)) s) ≡ true
+  pub open_ : IsOpen (records (node (run terms round w) (other side))) t
+
+-- each of them is one, where it comes
+abbrev pub AreTurns : Terms → World → Side → ℕ → ℕ → List (List Event) → Type 0
+AreTurns terms w side s t [] = Unit {0}
+AreTurns terms w side s t (round ∷ rounds) =
+    IsTurn terms w round side s t × AreTurns terms (run terms round w) side s t rounds
+
+-- the world behind them
+abbrev pub run_rounds : Terms → List (List Event) → World → World
+run_rounds terms [] w = w
+run_rounds terms (round ∷ rounds) w = run_rounds terms rounds (run terms round w)
+
+-- so many rounds are enough for so many keys: one for each 64 keys that may come before, each of them six times
+abbrev pub AreEnough : ℕ → ℕ → Type 0
+AreEnough keys rounds = 6 * (keys - 1) < 64 * rounds
+
+-- after enough rounds what a source had accepted, up to the end of the window, is acknowledged
+abbrev pub EachHasItsTurn : Type 0
+EachHasItsTurn =
+    (terms : Terms) (w : World) (rounds : List (List Event)) → AreTerms terms → IsSound terms w → BothStand w
+    → ((side : Side) → WaitsRight (node w side)) → (side : Side) (s t : ℕ) → IsReached w side s t
+    → AreTurns terms w side s t rounds → AreEnough (length (node w side).waits) (length rounds)
+    → (n : ℕ) → n ≤ accepted_count (records (node w side)) s
+    → n ≤ front (records (node w (other side))) t + limits.window → AllAcked (run_rounds terms rounds w) side s n
+
+-- from each world that a script reaches in which both nodes stand, what a source had accepted, up to the end of the
+-- window, has arrived after enough rounds
+abbrev pub EachMessageArrives : Type 0
+EachMessageArrives =
+    (terms : Terms) (one two : Text) → AreTerms terms → AreMade terms one two → (events : List Event)
+    (rounds : List (List Event)) → BothStand (run terms events (start one two)) → (side : Side) (s t : ℕ)
+    → IsReached (run terms events (start one two)) side s t
+    → AreTurns terms (run terms events (start one two)) side s t rounds
+    → AreEnough (length (node (run terms events (start one two)) side).waits) (length rounds)
+    → (n : ℕ) → n ≤ accepted_count (records (node (run terms events (start one two)) side)) s
+    → n ≤ front (records (node (run terms events (start one two)) (other side))) t + limits.window
+    → HasArrived (run_rounds terms rounds (run terms events (start one two))) side s t n
