@@ -1,5 +1,6 @@
 -- What a run tells that went well, over a traffic that tells: which things came, and what was given back of each.
-use Rattle.std.proofs.Common.{◌≡◌, ◌∙◌, ℕ, Bool, List, [], ◌∷◌, ◌++◌, Option, Some, Result, Ok, Err, ap, append_assoc, refl}
+use Rattle.std.proofs.Common.{◌≡◌, ◌∙◌, ℕ, Bool, List, [], ◌∷◌, ◌++◌, Option, Some, Result, Ok, Err, ap, append_assoc}
+use Rattle.std.proofs.Common.{refl}
 use Rattle.std.proofs.Common.{subst, sym}
 use Rattle.std.proofs.lemmas.List.{append-nil}
 use Rattle.service_turns.specs.Traffic.{Adds, Brings, Came, Comes, Gave, Scene}

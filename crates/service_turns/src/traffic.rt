@@ -31,8 +31,8 @@ pub trait Traffic {
     /// The application's.
     type App: Connection + Drop;
 
-    /// What it tells: what is to come, what was given back, its count of faults, and whether it fails only where nothing
-    /// is left to come.
+    /// What it tells: what is to come, what was given back, its count of faults, and whether it fails only where
+    /// nothing is left to come.
     ghost told: { Self → Scene };
 
     /// What comes next, waiting for so many milliseconds at most. Where that time is over it is `Quiet`, also where
