@@ -70,13 +70,13 @@ few-due x now right stands le few =
 -- ---- the two ends of a sequence match
 
 -- the sequence that was found is there, and passes the test
-record IsFound (f : ℕ → Maker → Bool) (k : ℕ) (ms : List Maker) (s : ℕ) : Type 0 where
-  maker_ : Maker
-  above : k < s
-  there : slice_get ms (s - k - 1) ≡ Some maker_
-  passes : f s maker_ ≡ true
+pub record IsFound (f : ℕ → Maker → Bool) (k : ℕ) (ms : List Maker) (s : ℕ) : Type 0 where
+  pub maker_ : Maker
+  pub above : k < s
+  pub there : slice_get ms (s - k - 1) ≡ Some maker_
+  pub passes : f s maker_ ≡ true
 
-find_from-is : (f : ℕ → Maker → Bool) (k : ℕ) (ms : List Maker) (s : ℕ) → find_from f k ms ≡ Some s
+pub find_from-is : (f : ℕ → Maker → Bool) (k : ℕ) (ms : List Maker) (s : ℕ) → find_from f k ms ≡ Some s
     → IsFound f k ms s
 find_from-is f k [] s e = absurd (cc)
 find_from-is f k (m ∷ ms) s e =
@@ -157,18 +157,24 @@ word-at w Two keeps stand =
     (left-at w.one (stand One))
 
 -- where 1 to n are held, the front is at n or behind it, and so is the end of the inbox
-in-inbox : NumbersAreFromOne → FrontIsReached → (r : List Fact) (t n : ℕ) → all_fit [] r ≡ true
-    → ((i : ℕ) → 0 < i → i ≤ n → has_number (held r t) i ≡ true) → behaviour r t ≡ FollowingFirstGap
-    → n ≤ length (inbox r t)
-in-inbox from reached r t n fit holds e =
+pub at-front : NumbersAreFromOne → FrontIsReached → (r : List Fact) (t n : ℕ) → all_fit [] r ≡ true
+    → ((i : ℕ) → 0 < i → i ≤ n → has_number (held r t) i ≡ true) → n ≤ front r t
+at-front from reached r t n fit holds =
     let it = front-is from reached r t fit in
-    let same : length (inbox r t) ≡ front r t = ap (λ y. length (inbox_of y (told r t) (items r t))) e in
-    elim (nat_le n (front r t)) as (λ b. nat_le n (front r t) ≡ b → n ≤ length (inbox r t)) [
-      | true ↦ λ h. let le : n ≤ front r t = grind (arith, nat_tests, h) in omega (arith, le, same)
+    elim (nat_le n (front r t)) as (λ b. nat_le n (front r t) ≡ b → n ≤ front r t) [
+      | true ↦ λ h. grind (arith, nat_tests, h)
       | false ↦ λ h.
           let below : front r t + 1 ≤ n = grind (arith, nat_tests, h) in
           absurd (false≢true (sym it.ends ∙ holds (front r t + 1) (omega arith) below))
     ] refl
+
+in-inbox : NumbersAreFromOne → FrontIsReached → (r : List Fact) (t n : ℕ) → all_fit [] r ≡ true
+    → ((i : ℕ) → 0 < i → i ≤ n → has_number (held r t) i ≡ true) → behaviour r t ≡ FollowingFirstGap
+    → n ≤ length (inbox r t)
+in-inbox from reached r t n fit holds e =
+    let same : length (inbox r t) ≡ front r t = ap (λ y. length (inbox_of y (told r t) (items r t))) e in
+    let le = at-front from reached r t n fit holds in
+    omega (arith, le, same)
 
 -- each run keeps the word
 abbrev pub EachRunKeeps : Type 0

@@ -439,7 +439,7 @@ count-grows r (f ∷ d) s fit =
     let same : (r ++ f ∷ []) ++ d ≡ r ++ f ∷ d = append_assoc r (f ∷ []) d in
     subst (λ z. accepted_count r s ≤ accepted_count z s) same (omega (arith, one, rest))
 
-reached-stays : (terms : Terms) (w v : World) (side : Side) (s u : ℕ) → IsSound terms w → Onward w v
+pub reached-stays : (terms : Terms) (w v : World) (side : Side) (s u : ℕ) → IsSound terms w → Onward w v
     → IsReached w side s u → IsReached v side s u
 reached-stays terms w v side s u sound on at =
     let a = records (node w side) in
@@ -477,7 +477,7 @@ fit-behind r (f ∷ d) e h =
     subst (λ z. all_fit z e ≡ true) (append_assoc r (f ∷ []) d)
     (fit-behind (r ++ f ∷ []) d e (and_parts (fits r f) (all_fit (r ++ f ∷ []) (d ++ e)) h).1)
 
-count-later : (terms : Terms) (w v : World) (side : Side) (s : ℕ) → IsSound terms v → Onward w v
+pub count-later : (terms : Terms) (w v : World) (side : Side) (s : ℕ) → IsSound terms v → Onward w v
     → accepted_count (records (node w side)) s ≤ accepted_count (records (node v side)) s
 count-later terms w v side s later on =
     let grown = on.grown side in

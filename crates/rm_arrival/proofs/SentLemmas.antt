@@ -101,17 +101,21 @@ silent-unnamed p old e = elim old [
   | inr is ↦ false≢true (subst (λ z. is_sending z ≡ true) is e)
 ]
 
-record IsThere {A : Type 0} (o : Option A) : Type 0 where
-  item : A
-  is : o ≡ Some item
+-- the option has an item
+pub record IsThere {A : Type 0} (o : Option A) : Type 0 where
+  pub item : A
+  pub is : o ≡ Some item
 
-named : (r : List Fact) (s : ℕ) → all_fit [] r ≡ true → is_sending (phase r s) ≡ true → IsThere (out_ident r s)
-named r s fit sends = by_ident (out_ident r s) refl
+pub named-in : (r : List Fact) (s : ℕ) → all_fit [] r ≡ true
+    → ((phase r s ≡ out.Creating) ⊎ (phase r s ≡ out.Failed) → ⊥) → IsThere (out_ident r s)
+named-in r s fit other = by_ident (out_ident r s) refl
   where
     by_ident : (o : Option Text) → out_ident r s ≡ o → IsThere o
     by_ident (Some q) e = record { item = q; is = refl }
-    by_ident None e =
-        absurd (silent-unnamed (phase r s) (fit-induction AreUnnamed none-unnamed unnamed-more r fit s e) sends)
+    by_ident None e = absurd (other (fit-induction AreUnnamed none-unnamed unnamed-more r fit s e))
+
+named : (r : List Fact) (s : ℕ) → all_fit [] r ≡ true → is_sending (phase r s) ≡ true → IsThere (out_ident r s)
+named r s fit sends = named-in r s fit (λ u. silent-unnamed (phase r s) u sends)
 
 -- ---- a number that waits is not gone
 
@@ -221,7 +225,7 @@ has-data r s i fit h =
 
 -- ---- a tick
 
-said-of : (r : List Fact) (keys : List Key) (s i : ℕ) (m : Message) → message_at r s i ≡ Some m
+pub said-of : (r : List Fact) (keys : List Key) (s i : ℕ) (m : Message) → message_at r s i ≡ Some m
     → has_key keys (key s i) ≡ true → IsSaidFor r keys m
 said-of r [] s i m e h = absurd (cc (h))
 said-of r (k ∷ keys) s i m e h = elim (same_key (key s i) k) as (λ b. same_key (key s i) k ≡ b

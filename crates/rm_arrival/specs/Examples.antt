@@ -1,4 +1,4 @@
--- A message that waits, and the sequence that it is for: what the laws of a round ask for can be met.
+-- A message that waits, the sequence that it is for, and a round that is fair: what the laws ask for can be met.
 use Rattle.std.specs.Prelude.{◌∷◌, [], List, None, codes}
 use Rattle.rm_base.specs.declared.lapse.Lapse.{Lapse}
 use Rattle.rm_base.specs.declared.message.Behaviour.TheVariants.{FollowingFirstGap}
@@ -6,6 +6,8 @@ use Rattle.record_batch.specs.declared.record.Via.TheVariants.{Direct}
 use Rattle.record_batch.specs.Fact.{Fact, Made, Creating, Created, Granted, Accepted}
 use Rattle.record_batch.specs.Sequences.Find.{plain_endpoint}
 use Rattle.record_batch.specs.Sequences.Idents.{issue}
+use Rattle.rm_protocol.specs.Examples.{opening, played}
+use Rattle.rm_protocol.specs.World.{Deliver, Event, One, Send, Tick, Two, World}
 
 -- a duration that never ends
 abbrev pub never : Lapse
@@ -22,3 +24,11 @@ abbrev pub an_open_destination : List Fact
 an_open_destination =
     Made 2 (codes "urn:b")
     ∷ Granted 1 (issue 1 1) (plain_endpoint (codes "urn:a")) FollowingFirstGap None never None ∷ []
+
+-- a message was sent, and its packet was lost
+abbrev pub with_one_lost : World
+with_one_lost = played (opening (Send One 1 (7 ∷ []) ∷ []))
+
+-- a fair round then: the tick says the message again, and the answer comes
+abbrev pub a_fair_round : List Event
+a_fair_round = Tick One 64000 ∷ Tick Two 64000 ∷ Deliver 4 ∷ Deliver 5 ∷ []

@@ -12,10 +12,10 @@ use Rattle.rm_protocol.specs.Node.{records}
 use Rattle.rm_protocol.specs.Sound.{IsSound}
 use Rattle.rm_protocol.specs.Terms.{AreTerms, Terms}
 use Rattle.rm_protocol.specs.Waiting.{nacked_of}
-use Rattle.rm_protocol.specs.World.{AreMade, Event, Packet, Side, World, node, other, run, start}
+use Rattle.rm_protocol.specs.World.{AreMade, Event, Packet, Side, World, node, other, run}
 use Rattle.rm_arrival.specs.Fair.{BothStand, IsFair, IsOpen, IsReached, moment}
 use Rattle.rm_arrival.specs.Few.{AllAcked}
-use Rattle.rm_arrival.specs.Runs.{HasArrived, WaitsRight}
+use Rattle.rm_arrival.specs.Runs.{HasArrived, WaitsRight, reached_by}
 
 -- the block says of no number that it is missing
 abbrev pub NamesNoneMissing : AckBlock → Type 0
@@ -65,10 +65,24 @@ EachHasItsTurn =
 abbrev pub EachMessageArrives : Type 0
 EachMessageArrives =
     (terms : Terms) (one two : Text) → AreTerms terms → AreMade terms one two → (events : List Event)
-    (rounds : List (List Event)) → BothStand (run terms events (start one two)) → (side : Side) (s t : ℕ)
-    → IsReached (run terms events (start one two)) side s t
-    → AreTurns terms (run terms events (start one two)) side s t rounds
-    → AreEnough (length (node (run terms events (start one two)) side).waits) (length rounds)
-    → (n : ℕ) → n ≤ accepted_count (records (node (run terms events (start one two)) side)) s
-    → n ≤ front (records (node (run terms events (start one two)) (other side))) t + limits.window
-    → HasArrived (run_rounds terms rounds (run terms events (start one two))) side s t n
+    (rounds : List (List Event)) → BothStand (reached_by terms one two events) → (side : Side) (s t : ℕ)
+    → IsReached (reached_by terms one two events) side s t
+    → AreTurns terms (reached_by terms one two events) side s t rounds
+    → AreEnough (length (node (reached_by terms one two events) side).waits) (length rounds)
+    → (n : ℕ) → n ≤ accepted_count (records (node (reached_by terms one two events) side)) s
+    → n ≤ front (records (node (reached_by terms one two events) (other side))) t + limits.window
+    → HasArrived (run_rounds terms rounds (reached_by terms one two events)) side s t n
+
+-- two passes of enough rounds bring what is up to two windows past the front: in the first the window moves
+abbrev pub TwoPassesArrive : Type 0
+TwoPassesArrive =
+    (terms : Terms) (one two : Text) → AreTerms terms → AreMade terms one two → (events : List Event)
+    (first second : List (List Event)) → BothStand (reached_by terms one two events) → (side : Side) (s t : ℕ)
+    → IsReached (reached_by terms one two events) side s t
+    → AreTurns terms (reached_by terms one two events) side s t first
+    → AreEnough (length (node (reached_by terms one two events) side).waits) (length first)
+    → AreTurns terms (run_rounds terms first (reached_by terms one two events)) side s t second
+    → AreEnough (length (node (run_rounds terms first (reached_by terms one two events)) side).waits) (length second)
+    → (n : ℕ) → n ≤ accepted_count (records (node (reached_by terms one two events) side)) s
+    → n ≤ front (records (node (reached_by terms one two events) (other side))) t + 2 * limits.window
+    → HasArrived (run_rounds terms second (run_rounds terms first (reached_by terms one two events))) side s t n

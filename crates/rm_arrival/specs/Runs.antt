@@ -16,6 +16,10 @@ use Rattle.rm_arrival.specs.Fair.{BothStand, IsFair, IsOpen, IsReached, moment}
 use Rattle.rm_arrival.specs.Few.{AllAcked}
 use Rattle.rm_arrival.specs.Round.{IsTimely}
 
+-- the world that a script reaches
+abbrev pub reached_by : Terms → Text → Text → List Event → World
+reached_by terms one two events = run terms events (start one two)
+
 -- at a node that is up the keys that wait are those that wait by its records; and each is in a class up to 6, and due
 -- within 64 seconds of the node's time
 pub record WaitsRight (x : Node) : Type 0 where
@@ -26,7 +30,7 @@ pub record WaitsRight (x : Node) : Type 0 where
 abbrev pub EachRunWaitsRight : Type 0
 EachRunWaitsRight =
     (terms : Terms) (one two : Text) → AreTerms terms → AreMade terms one two → (events : List Event) (side : Side)
-    → WaitsRight (node (run terms events (start one two)) side)
+    → WaitsRight (node (reached_by terms one two events) side)
 
 -- of the first n messages of source s of a side: they are acknowledged, destination t of the other side holds them, and
 -- in a sequence with DiscardFollowingFirstGap they are in the inbox
@@ -42,12 +46,12 @@ pub record HasArrived (w : World) (side : Side) (s t n : ℕ) : Type 0 where
 abbrev pub AFewArrive : Type 0
 AFewArrive =
     (terms : Terms) (one two : Text) → AreTerms terms → AreMade terms one two → (events round : List Event)
-    → BothStand (run terms events (start one two)) → (fair : IsFair terms (run terms events (start one two)) round)
-    → (side : Side) (s t : ℕ) → IsReached (run terms events (start one two)) side s t
-    → is_sending (phase (records (node (run terms events (start one two)) side)) s) ≡ true
-    → (node (run terms events (start one two)) side).time + 64000 ≤ moment fair side
-    → length (due_at (moment fair side) (node (run terms events (start one two)) side).waits) ≤ most_emitted
-    → (n : ℕ) → n ≤ accepted_count (records (node (run terms events (start one two)) side)) s
-    → n ≤ front (records (node (run terms events (start one two)) (other side))) t + limits.window
-    → IsOpen (records (node (run terms round (run terms events (start one two))) (other side))) t
-    → HasArrived (run terms round (run terms events (start one two))) side s t n
+    → BothStand (reached_by terms one two events) → (fair : IsFair terms (reached_by terms one two events) round)
+    → (side : Side) (s t : ℕ) → IsReached (reached_by terms one two events) side s t
+    → is_sending (phase (records (node (reached_by terms one two events) side)) s) ≡ true
+    → (node (reached_by terms one two events) side).time + 64000 ≤ moment fair side
+    → length (due_at (moment fair side) (node (reached_by terms one two events) side).waits) ≤ most_emitted
+    → (n : ℕ) → n ≤ accepted_count (records (node (reached_by terms one two events) side)) s
+    → n ≤ front (records (node (reached_by terms one two events) (other side))) t + limits.window
+    → IsOpen (records (node (run terms round (reached_by terms one two events)) (other side))) t
+    → HasArrived (run terms round (reached_by terms one two events)) side s t n

@@ -4,15 +4,21 @@ ghost use Rattle.record_batch.specs.Sequences.Destinations.{is_over};
 ghost use Rattle.record_batch.specs.Sequences.Find.{acks_to, find_incoming, plain_endpoint};
 ghost use Rattle.record_batch.specs.Sequences.Fits.{all_fit};
 ghost use Rattle.record_batch.specs.Sequences.Idents.{issue};
+ghost use Rattle.record_batch.specs.Sequences.Sources.{acked};
+ghost use Rattle.rm_protocol.specs.Examples.{example_terms};
+ghost use Rattle.rm_protocol.specs.Node.{records};
 ghost use Rattle.rm_protocol.specs.Waiting.{is_waiting, key};
-ghost use Rattle.rm_arrival.specs.Examples.{a_waiting_source, an_open_destination};
+ghost use Rattle.rm_protocol.specs.World.{run};
+ghost use Rattle.rm_sides.specs.Ranges.Ranges.{in_ranges};
+ghost use Rattle.rm_arrival.specs.Examples.{a_fair_round, a_waiting_source, an_open_destination, with_one_lost};
+ghost use Rattle.rm_arrival.specs.Requests.{ResponsesEnd};
 ghost use Rattle.rm_arrival.specs.Round.{AckEndsTheWait, ArrivesInARound, DueIsSaid, HeldIsAcked, WaitEndsForGood};
 ghost use Rattle.rm_arrival.specs.Round.{AckIsTaken, DataIsTaken, FewAreAllEmitted, WaitingHasData};
-ghost use Rattle.rm_arrival.specs.Fair.{ARoundBrings};
+ghost use Rattle.rm_arrival.specs.Fair.{ARoundBrings, IsFair};
 ghost use Rattle.rm_arrival.specs.Few.{ARoundBringsAFew};
 ghost use Rattle.rm_arrival.specs.Nodes.{ARoundOfNodes, TakesWhole};
 ghost use Rattle.rm_arrival.specs.Round.{WaitsAreTimely};
-ghost use Rattle.rm_arrival.specs.Rounds.{EachHasItsTurn, EachMessageArrives};
+ghost use Rattle.rm_arrival.specs.Rounds.{EachHasItsTurn, EachMessageArrives, TwoPassesArrive};
 ghost use Rattle.rm_arrival.specs.Runs.{AFewArrive, EachRunWaitsRight};
 
 use record_batch::snapshot::numbers_are_from_one;
@@ -55,6 +61,11 @@ pub fn what_is_due_is_said()
     ensures { DueIsSaid }
 {}
 
+/// The row of the response to a request ends its wait.
+pub fn a_response_ends_the_wait()
+    ensures { ResponsesEnd }
+{}
+
 /// Data that a destination can take gets no fault, where its sequence is not ended and the store has room.
 pub fn data_gets_no_fault()
     ensures { DataIsTaken }
@@ -77,6 +88,12 @@ pub fn a_message_that_waits()
     ensures found { find_incoming an_open_destination (issue 2 1) ≡ Some 1 }
     ensures back { acks_to an_open_destination 1 ≡ Some (plain_endpoint (codes "urn:a")) }
     ensures open_ { is_over an_open_destination 1 0 ≡ false }
+{}
+
+/// A round can be fair: after a message was lost, the tick says it again, it is delivered, and the answer comes.
+pub fn a_round_that_is_fair()
+    ensures fair { IsFair example_terms with_one_lost a_fair_round }
+    ensures acked { in_ranges (acked (records (run example_terms a_fair_round with_one_lost).one) 1) 1 ≡ true }
 {}
 
 /// What waits is due within 64 seconds of a node's time, after a mount and after each call: a tick 64 seconds after the
@@ -177,6 +194,23 @@ pub fn each_key_has_its_turn()
 /// where its sequence is open.
 pub fn each_message_arrives()
     ensures { EachMessageArrives }
+{
+    every_run_keeps_the_word();
+    every_step_keeps_the_agreement();
+    what_waits_stays_exact();
+    what_waits_is_exact_in_short();
+    what_begins_waits();
+    only_what_was_heard_is_recorded();
+    each_record_may_come_next();
+    records_leave_other_keys();
+    numbers_are_from_one();
+    front_is_reached();
+    union_has_both();
+}
+
+/// Two passes of enough fair rounds bring what is up to two windows past the front: in the first the window moves.
+pub fn two_passes_bring_two_windows()
+    ensures { TwoPassesArrive }
 {
     every_run_keeps_the_word();
     every_step_keeps_the_agreement();
