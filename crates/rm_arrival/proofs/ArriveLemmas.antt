@@ -1,9 +1,8 @@
 -- From each world that a script reaches, one fair round brings what a few keys stand for.
-use Rattle.std.proofs.Common.{◌≡◌, ℕ, zero, suc, ◌+◌, ◌-◌, ◌<◌, ◌≤◌, max, nat_lt, nat_le, cond, Bool, true, false, List}
+use Rattle.std.proofs.Common.{◌≡◌, ℕ, suc, ◌+◌, ◌-◌, ◌<◌, ◌≤◌, nat_le, cond, Bool, true, false, List}
 use Rattle.std.proofs.Common.{[], ◌∷◌, ◌++◌, length, refl, sym, ap, ◌∙◌, subst, arith}
 use Rattle.std.specs.Prelude.{Option, Some, None, slice_get}
 use Rattle.std.specs.List.{AllByRecursion}
-use Rattle.std.specs.Str.{bytes_eq}
 use Rattle.std.proofs.lemmas.Bool.{false≢true}
 use Rattle.std.proofs.lemmas.Bool.Decides.{nat_tests}
 use Rattle.std.proofs.lemmas.Slice.Eq.{bytes_eq-Decides}
@@ -19,7 +18,7 @@ use Rattle.record_batch.specs.Snapshot.Same.{NumbersAreFromOne}
 use Rattle.record_batch.specs.Sequences.Words.{Text}
 use Rattle.record_batch.specs.Sequences.Idents.{issue}
 use Rattle.record_batch.specs.Sequences.Makers.{Maker, makers, number}
-use Rattle.record_batch.specs.Sequences.Sources.{accepted_count, out_ident}
+use Rattle.record_batch.specs.Sequences.Sources.{out_ident}
 use Rattle.record_batch.specs.Sequences.Destinations.{behaviour, front, held, inbox, items, told}
 use Rattle.record_batch.specs.Sequences.Fits.{all_fit}
 use Rattle.record_batch.specs.Sequences.Find.{IsIncoming, find_from, find_incoming, incoming_of, is_incoming, is_issued}

@@ -1,6 +1,6 @@
 -- A message that a tick of a fair round emits: the tick says it, it is answered, and the answer ends its wait.
-use Rattle.std.proofs.Common.{◌≡◌, ◌≢◌, ℕ, zero, suc, ◌+◌, ◌<◌, ◌≤◌, ◌&&◌, max, not, cond, Bool, true, false, List, []}
-use Rattle.std.proofs.Common.{◌∷◌, ◌++◌, length, map, refl, sym, ap, ◌∙◌, subst, arith, inl, inr, append_assoc}
+use Rattle.std.proofs.Common.{◌≡◌, ◌≢◌, ℕ, suc, ◌+◌, ◌<◌, ◌≤◌, ◌&&◌, max, not, cond, Bool, true, false, List, []}
+use Rattle.std.proofs.Common.{◌∷◌, ◌++◌, length, map, refl, sym, ap, ◌∙◌, subst, arith, inr}
 use Rattle.std.proofs.Common.{length-append}
 use Rattle.std.specs.Prelude.{Option, Some, None, Ok, slice_get}
 use Rattle.std.specs.List.{AllByRecursion}
@@ -39,8 +39,7 @@ use Rattle.rm_protocol.specs.Sound.{IsSound}
 use Rattle.rm_protocol.specs.Terms.{AreTerms, Terms}
 use Rattle.rm_protocol.specs.Verdict.{has_room, is_invalid}
 use Rattle.rm_protocol.specs.Waiting.{is_waiting, key, waits_of}
-use Rattle.rm_protocol.specs.Word.{IsPrefixOf}
-use Rattle.rm_protocol.specs.World.{Deliver, Event, One, Packet, Side, Tick, Two, World, calls, happens, node, other}
+use Rattle.rm_protocol.specs.World.{Deliver, Event, One, Packet, Side, Tick, Two, World, happens, node, other}
 use Rattle.rm_protocol.specs.World.{received_by, run, with_clock, with_node}
 use Rattle.rm_arrival.specs.Fair.{ARoundBrings, BothStand, HadRoom, IsDue, IsFair, IsOpen, IsReached, endless, moment}
 use Rattle.rm_arrival.specs.Nodes.{Stands}

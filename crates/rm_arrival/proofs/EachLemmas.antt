@@ -1,5 +1,5 @@
 -- From each world that a script reaches, each message arrives after enough fair rounds.
-use Rattle.std.proofs.Common.{◌≡◌, ℕ, ◌+◌, ◌*◌, ◌<◌, ◌≤◌, min, List, ◌++◌, length, sym, ◌∙◌, subst, arith}
+use Rattle.std.proofs.Common.{◌≡◌, ℕ, ◌+◌, ◌*◌, ◌≤◌, min, ◌++◌, length, sym, ◌∙◌, subst, arith}
 use Rattle.rm_base.specs.Limits.{window}
 use Rattle.record_batch.specs.Sequences.Sources.{accepted_count}
 use Rattle.record_batch.specs.Sequences.Destinations.{front}

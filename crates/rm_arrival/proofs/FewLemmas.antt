@@ -1,14 +1,13 @@
 -- Where at most 64 keys are due, one fair round has each message acknowledged.
-use Rattle.std.proofs.Common.{◌≡◌, ◌⊎◌, ℕ, zero, suc, ◌+◌, ◌<◌, ◌≤◌, ◌&&◌, ◌||◌, not, nat_le, Bool, true, false, List}
+use Rattle.std.proofs.Common.{◌≡◌, ◌⊎◌, ℕ, zero, suc, ◌+◌, ◌≤◌, ◌&&◌, ◌||◌, not, nat_le, Bool, true, false, List}
 use Rattle.std.proofs.Common.{[], ◌∷◌, ◌++◌, length, refl, sym, ap, ◌∙◌, subst, arith, inl, inr}
-use Rattle.std.specs.Prelude.{Option, Some, None}
+use Rattle.std.specs.Prelude.{Option, Some}
 use Rattle.std.specs.List.{AllByRecursion}
 use Rattle.std.proofs.lemmas.Bool.{le-leb}
 use Rattle.rm_sides.specs.Destination.Laws.{FrontIsReached}
 use Rattle.rm_sides.specs.Ranges.Laws.{UnionHasBoth}
 use Rattle.rm_sides.specs.Ranges.Ranges.{in_ranges}
 use Rattle.rm_sides.specs.Ranges.Changes.{united}
-use Rattle.rm_sides.specs.Source.Outgoing.{accepted_count as count_of}
 use Rattle.timers.specs.declared.slots.timers.Key.{Key}
 use Rattle.timers.specs.Keys.KeyLemmas.{same_key-is}
 use Rattle.timers.specs.Keys.Waits.{Wait, due_at, first_due, has_key, keys_of, most_emitted, same_key}
@@ -23,9 +22,9 @@ use Rattle.rm_protocol.specs.Exact.{OthersWaitOn}
 use Rattle.rm_protocol.specs.Next.{EachMayComeNext}
 use Rattle.rm_protocol.specs.Node.{records}
 use Rattle.rm_protocol.specs.Waiting.{is_waiting, key, waits_in, waits_of}
-use Rattle.rm_protocol.specs.World.{node, run}
+use Rattle.rm_protocol.specs.World.{node}
 use Rattle.rm_arrival.specs.Fair.{moment}
-use Rattle.rm_arrival.specs.Few.{ARoundBringsAFew, AreFewDue, IsDueAt, time_at}
+use Rattle.rm_arrival.specs.Few.{ARoundBringsAFew, IsDueAt, time_at}
 use Rattle.rm_arrival.proofs.BringLemmas.{round-brings, round-keeps}
 use Rattle.rm_arrival.proofs.DueLemmas.{few-emitted}
 use Rattle.rm_arrival.proofs.OnwardLemmas.{StaysSound}

@@ -1,11 +1,10 @@
 -- What ticks and deliveries leave: nodes that stand, and records and packets to which more is added at the end.
-use Rattle.std.proofs.Common.{◌≡◌, ℕ, suc, ◌<◌, Bool, true, false, List, [], ◌∷◌, ◌++◌, length, map, refl, sym, ap}
+use Rattle.std.proofs.Common.{◌≡◌, ℕ, suc, ◌<◌, Bool, true, false, List, [], ◌∷◌, ◌++◌, length, refl, sym, ap}
 use Rattle.std.proofs.Common.{◌∙◌, subst, arith, append-nil, append_assoc, length-append}
-use Rattle.std.specs.Prelude.{Option, Some, None, Result, Ok}
+use Rattle.std.specs.Prelude.{Option, Some, None, Ok}
 use Rattle.std.specs.List.{AllByRecursion}
 use Rattle.rm_base.specs.Numbered.{numbered}
 use Rattle.rm_message.specs.declared.message.Message.{Message}
-use Rattle.rm_message.specs.declared.refusal.Refusal.{Refusal}
 use Rattle.rm_protocol.specs.Addresses.{place_of}
 use Rattle.rm_protocol.specs.Calls.{Answer, tick}
 use Rattle.rm_protocol.specs.Node.{Node, after, call_outcome, fetched_after, node_end, records, said_after}

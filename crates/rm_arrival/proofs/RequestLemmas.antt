@@ -1,12 +1,11 @@
--- Responses end the wait of their requests.
-use Rattle.std.proofs.Common.{◌≡◌, ◌⊎◌, ℕ, zero, suc, ◌+◌, ◌-◌, ◌<◌, ◌==◌, ◌&&◌, not, cond, Bool, true, false, List, []}
+-- Requests that wait are there to be said, and their responses end the wait.
+use Rattle.std.proofs.Common.{◌≡◌, ℕ, zero, suc, ◌+◌, ◌-◌, ◌==◌, ◌&&◌, not, cond, true, false, List, []}
 use Rattle.std.proofs.Common.{◌∷◌, ◌++◌, length, refl, sym, ap, ◌∙◌, subst, arith, inl, inr, append-nil, append_assoc}
 use Rattle.std.specs.Prelude.{Option, Some, None, codes, is_none, is_some}
 use Rattle.std.specs.List.{flat_map}
 use Rattle.std.specs.Option.{option_or}
 use Rattle.std.specs.Str.{bytes_eq}
 use Rattle.std.proofs.lemmas.Bool.{and_parts, eq-eqb, false≢true}
-use Rattle.std.proofs.lemmas.Bool.Decides.{nat_tests}
 use Rattle.std.proofs.lemmas.List.Concat.{flat_map-append}
 use Rattle.rm_base.specs.Numbered.{numbered}
 use Rattle.rm_base.specs.declared.message.Cause.TheVariants.{NotTaken}
@@ -37,6 +36,140 @@ use Rattle.rm_arrival.proofs.ArriveLemmas.{find_from-is}
 use Rattle.rm_arrival.proofs.MemberLemmas.{numbered-next}
 use Rattle.rm_arrival.proofs.SentLemmas.{IsThere, named-in, said-of}
 use Rattle.rm_arrival.proofs.StayLemmas.{out_ident-stays}
+
+-- ---- a sequence that was taken has an identifier
+
+-- the sequence has none
+abbrev IsBare : List (ℕ × Text) → ℕ → Type 0
+IsBare cs s = ident_in cs s ≡ None
+
+bare-back : (cs ds : List (ℕ × Text)) (s : ℕ) → IsBare (cs ++ ds) s → IsBare ds s
+bare-back [] ds s h = h
+bare-back (c ∷ cs) ds s h = elim (c.0 == s) as (λ b. cond b (Some c.1) (ident_in (cs ++ ds) s) ≡ None → IsBare ds s) [
+  | true ↦ λ e. absurd (cc (e))
+  | false ↦ λ e. bare-back cs ds s e
+] h
+
+numbered-second : {A : Type 0} (x : A) (xs : List A) (j : ℕ) → numbered (x ∷ xs) (suc (suc j)) ≡ numbered xs (suc j)
+numbered-second x xs j = numbered-next (x ∷ xs) (suc j) ∙ sym (numbered-next xs j)
+
+-- made by the taking of an offer
+abbrev IsTakenOne : Maker → Type 0
+IsTakenOne (Taken message_id ident endpoint) = Unit {0}
+IsTakenOne _ = ⊥
+
+first-is : {A : Type 0} (x y : A) (xs : List A) → numbered (x ∷ xs) 1 ≡ Some y → x ≡ y
+first-is x y xs e = cc (sym (numbered-next (x ∷ xs) 0) ∙ e)
+
+taken-named : (k : ℕ) (r : List Fact) (j : ℕ) (m : Maker) → IsTakenOne m → numbered (makers r) j ≡ Some m
+    → IsBare (created_from k r) (k + j) → ⊥
+taken-named k r zero m is e bare = absurd (cc (e))
+taken-named k [] (suc j) m is e bare = absurd (cc (sym (numbered-next [] j) ∙ e))
+taken-named k (Creating ticket to via lapse None ∷ r) (suc zero) m is e bare =
+    subst IsTakenOne (sym (first-is (Outgoing ticket to via lapse) m (makers r) e)) is
+taken-named k (Creating ticket to via lapse None ∷ r) (suc (suc j)) m is e bare =
+    taken-named (k + 1) r (suc j) m is (sym (numbered-second (Outgoing ticket to via lapse) (makers r) j) ∙ e)
+    (subst (λ n. IsBare (created_from (k + 1) r) n) (place k j) bare)
+  where
+    place : (k j : ℕ) → k + suc (suc j) ≡ k + 1 + suc j
+    place k j = omega arith
+taken-named k (Creating ticket to via lapse (Some offer) ∷ r) (suc zero) m is e bare =
+    subst IsTakenOne (sym (first-is (Outgoing ticket to via lapse) m
+    (Offered ticket offer.counter to offer.behaviour ∷ makers r) e)) is
+taken-named k (Creating ticket to via lapse (Some offer) ∷ r) (suc (suc zero)) m is e bare =
+    subst IsTakenOne (sym (first-is (Offered ticket offer.counter to offer.behaviour) m (makers r)
+    (sym (numbered-second (Outgoing ticket to via lapse)
+    (Offered ticket offer.counter to offer.behaviour ∷ makers r) 0) ∙ e))) is
+taken-named k (Creating ticket to via lapse (Some offer) ∷ r) (suc (suc (suc j))) m is e bare =
+    taken-named (k + 2) r (suc j) m is
+    (sym (numbered-second (Outgoing ticket to via lapse)
+    (Offered ticket offer.counter to offer.behaviour ∷ makers r) (suc j)
+    ∙ numbered-second (Offered ticket offer.counter to offer.behaviour) (makers r) j) ∙ e)
+    (subst (λ n. IsBare (created_from (k + 2) r) n) (place k j) bare)
+  where
+    place : (k j : ℕ) → k + suc (suc (suc j)) ≡ k + 2 + suc j
+    place k j = omega arith
+taken-named k (Granted c t acks y deadline lapse None ∷ r) (suc zero) m is e bare =
+    subst IsTakenOne (sym (first-is (Incoming c t acks y deadline lapse) m (makers r) e)) is
+taken-named k (Granted c t acks y deadline lapse None ∷ r) (suc (suc j)) m is e bare =
+    taken-named (k + 1) r (suc j) m is (sym (numbered-second (Incoming c t acks y deadline lapse) (makers r) j) ∙ e)
+    (subst (λ n. IsBare (created_from (k + 1) r) n) (place k j) bare)
+  where
+    place : (k j : ℕ) → k + suc (suc j) ≡ k + 1 + suc j
+    place k j = omega arith
+taken-named k (Granted c t acks y deadline lapse (Some offer) ∷ r) (suc zero) m is e bare =
+    subst IsTakenOne (sym (first-is (Incoming c t acks y deadline lapse) m
+    (Taken t offer.ident offer.endpoint ∷ makers r) e)) is
+taken-named k (Granted c t acks y deadline lapse (Some offer) ∷ r) (suc (suc zero)) m is e bare =
+    let same : (k + 2 == k + 2) ≡ true = eq-eqb (k + 2) (k + 2) refl in
+    absurd (cc (sym (ap (λ b. cond b (Some offer.ident) (ident_in (created_from (k + 2) r) (k + 2))) same) ∙ bare))
+taken-named k (Granted c t acks y deadline lapse (Some offer) ∷ r) (suc (suc (suc j))) m is e bare =
+    taken-named (k + 2) r (suc j) m is
+    (sym (numbered-second (Incoming c t acks y deadline lapse) (Taken t offer.ident offer.endpoint ∷ makers r) (suc j)
+    ∙ numbered-second (Taken t offer.ident offer.endpoint) (makers r) j) ∙ e)
+    (subst (λ n. IsBare (created_from (k + 2) r) n) (place k j)
+    (bare-back ((k + 2, offer.ident) ∷ []) (created_from (k + 2) r) (k + suc (suc (suc j))) bare))
+  where
+    place : (k j : ℕ) → k + suc (suc (suc j)) ≡ k + 2 + suc j
+    place k j = omega arith
+taken-named k (rec ∷ r) (suc j) m is e bare =
+    taken-named (k + 0) r (suc j) m is e
+    (subst (λ n. IsBare (created_from (k + 0) r) n) (place k j)
+    (bare-back (created_of k rec) (created_from (k + 0) r) (k + suc j) bare))
+  where
+    place : (k j : ℕ) → k + suc j ≡ k + 0 + suc j
+    place k j = omega arith
+
+-- ---- a request that waits is there
+
+some-there : {A : Type 0} (o : Option A) → is_some o ≡ true → IsThere o
+some-there None e = absurd (false≢true e)
+some-there (Some x) e = record { item = x; is = refl }
+
+request-there : (r : List Fact) (s : ℕ) → is_some (request_at r s) ≡ true → HasRequest r s
+request-there r s e = let it = some-there (request_at r s) e in record { request = it.item; is = it.is }
+
+-- in a phase in which it waits, where it has a peer
+requested : (r : List Fact) (s : ℕ) (to : Epr) → all_fit [] r ≡ true → peer r s ≡ Some to
+    → (phase r s ≡ out.Creating → HasRequest r s) → is_requesting (phase r s) ≡ true → HasRequest r s
+requested r s to fit peer_ creating h = by_phase (phase r s) refl h
+  where
+    by_phase : (p : OutPhase) → phase r s ≡ p → is_requesting p ≡ true → HasRequest r s
+    by_phase out.Creating at k = creating at
+    by_phase out.Closing at k =
+        let q = named-in r s fit (λ u. elim u [ inl x ↦ cc (sym at ∙ x) | inr x ↦ cc (sym at ∙ x) ]) in
+        request-there r s (ap (λ p. is_some (request_by r s p)) at
+        ∙ ap (λ o. is_some (finish_request r s o (out_ident r s) (codes "CloseSequence") life.Close)) peer_
+        ∙ ap (λ o. is_some (finish_request r s (Some to) o (codes "CloseSequence") life.Close)) q.is)
+    by_phase out.Ending at k =
+        let q = named-in r s fit (λ u. elim u [ inl x ↦ cc (sym at ∙ x) | inr x ↦ cc (sym at ∙ x) ]) in
+        request-there r s (ap (λ p. is_some (request_by r s p)) at
+        ∙ ap (λ o. is_some (finish_request r s o (out_ident r s) (codes "TerminateSequence") life.Terminate)) peer_
+        ∙ ap (λ o. is_some (finish_request r s (Some to) o (codes "TerminateSequence") life.Terminate)) q.is)
+    by_phase _ at k = absurd (false≢true k)
+
+pub has-request : (r : List Fact) (s : ℕ) → all_fit [] r ≡ true → is_waiting r (key s 0) ≡ true → HasRequest r s
+has-request r s fit h = by_maker (maker r s) refl h
+  where
+    bare-at : phase r s ≡ out.Creating → ident_in (created_from 0 r) (0 + s) ≡ None
+    bare-at at =
+        let place : 0 + s ≡ s = omega arith in
+        ap (λ n. ident_in (created_from 0 r) n) place ∙ (creating-bare r s at).0
+
+    by_maker : (o : Option Maker) → maker r s ≡ o → waits_of r s 0 o ≡ true → HasRequest r s
+    by_maker (Some (Outgoing ticket to via lapse)) e k =
+        requested r s (plain_endpoint to) fit (ap peer_of e)
+        (λ at. request-there r s (ap (λ p. is_some (request_by r s p)) at
+        ∙ ap (λ o. is_some (create_request r s o)) e)) k
+    by_maker (Some (Taken message_id ident endpoint)) e k =
+        requested r s endpoint fit (ap peer_of e)
+        (λ at. absurd (taken-named 0 r s (Taken message_id ident endpoint) tt e (bare-at at))) k
+    by_maker _ e k = absurd (false≢true k)
+
+pub request-said : RequestIsSaid
+request-said r s keys fit h due =
+    let it = has-request r s fit h in
+    (it, said-of r keys s 0 it.request it.is due)
 
 -- ---- what a response ends
 

@@ -1,12 +1,12 @@
 -- Fair rounds one after the other: what they make of what waits at a node, and that each key has its turn.
-use Rattle.std.proofs.Common.{◌≡◌, ◌⊎◌, ℕ, zero, suc, ◌+◌, ◌-◌, ◌*◌, ◌<◌, ◌≤◌, ◌==◌, ◌&&◌, ◌||◌, max, nat_le, cond}
+use Rattle.std.proofs.Common.{◌≡◌, ◌⊎◌, ℕ, zero, suc, ◌+◌, ◌-◌, ◌*◌, ◌<◌, ◌≤◌, ◌==◌, ◌||◌, max, cond}
 use Rattle.std.proofs.Common.{Bool}
-use Rattle.std.proofs.Common.{true, false, List, [], ◌∷◌, ◌++◌, length, map, filter, refl, sym, ap, ◌∙◌, subst, arith}
+use Rattle.std.proofs.Common.{true, false, List, [], ◌∷◌, ◌++◌, length, map, refl, sym, ap, ◌∙◌, subst, arith}
 use Rattle.std.proofs.Common.{inl}
 use Rattle.std.proofs.Common.{inr, append-nil, append_assoc, length-append}
 use Rattle.std.specs.Prelude.{Option, Some, None, Result, Ok, Err}
 use Rattle.std.specs.List.{AllByRecursion, flat_map}
-use Rattle.std.proofs.lemmas.Bool.{and_parts, eqb-true, false≢true, le-leb}
+use Rattle.std.proofs.lemmas.Bool.{and_parts, eqb-true, le-leb}
 use Rattle.std.proofs.lemmas.Bool.Decides.{nat_tests}
 use Rattle.std.proofs.lemmas.List.Concat.{flat_map-append}
 use Rattle.rm_base.specs.Limits.{window}
@@ -22,12 +22,11 @@ use Rattle.rm_sides.specs.Ranges.Ranges.{in_ranges}
 use Rattle.timers.specs.declared.slots.timers.Key.{Key}
 use Rattle.timers.specs.Keys.KeyLemmas.{same_key-is}
 use Rattle.timers.specs.Keys.Waits.{Wait, begin_all, first_due, has_key, keys_of, same_key, send_all, urge_all}
-use Rattle.wsa_headers.specs.declared.endpoint.Epr.{Epr}
-use Rattle.record_batch.specs.Fact.{Fact, Accepted, Dropped}
+use Rattle.record_batch.specs.Fact.{Fact, Dropped}
 use Rattle.record_batch.specs.Snapshot.Same.{NumbersAreFromOne}
 use Rattle.record_batch.specs.Sequences.Words.{last_or}
 use Rattle.record_batch.specs.Sequences.GatherLemmas.{last_or-append}
-use Rattle.record_batch.specs.Sequences.Makers.{makers, number}
+use Rattle.record_batch.specs.Sequences.Makers.{makers}
 use Rattle.record_batch.specs.Sequences.Sources.{accepted, accepted_count, accepted_of, acked, dropped, dropped_of}
 use Rattle.record_batch.specs.Sequences.Sources.{is_sending, out_ident, phase}
 use Rattle.record_batch.specs.Sequences.Destinations.{front}
@@ -36,24 +35,23 @@ use Rattle.record_batch.specs.Sequences.Fits.{all_fit, fits, follows_at}
 use Rattle.rm_protocol.specs.Calls.{Answer, expired_from, judged, tick_with, ticked}
 use Rattle.rm_protocol.specs.Exact.{AreExactly, OthersWaitOn}
 use Rattle.rm_protocol.specs.Next.{EachMayComeNext}
-use Rattle.rm_protocol.specs.Node.{Node, State, Up, after, after_by, node_end, records}
+use Rattle.rm_protocol.specs.Node.{Node, after, after_by, node_end, records}
 use Rattle.rm_protocol.specs.Polls.{polls}
 use Rattle.rm_protocol.specs.Recorded.{OnlyHeardIsRecorded}
 use Rattle.rm_protocol.specs.Sound.{IsSound}
 use Rattle.rm_protocol.specs.Terms.{AreTerms, Terms}
 use Rattle.rm_protocol.specs.Verdict.{has_room, verdict}
 use Rattle.rm_protocol.specs.WaitLemmas.{all-wait}
-use Rattle.rm_protocol.specs.Waiting.{begun_by, is_waiting, key, nacked, nacked_at, nacked_of, still}
-use Rattle.rm_protocol.specs.Word.{IsPrefixOf}
+use Rattle.rm_protocol.specs.Waiting.{begun_by, is_waiting, key, nacked, nacked_at, still}
 use Rattle.rm_protocol.specs.World.{Deliver, Event, One, Packet, Side, Tick, Two, World, arrives, calls, happens, node}
 use Rattle.rm_protocol.specs.World.{other, received_by, run, with_clock}
-use Rattle.rm_arrival.specs.Fair.{BothStand, IsFair, IsKept, IsOpen, IsReached, moment}
+use Rattle.rm_arrival.specs.Fair.{BothStand, IsFair, IsKept, IsReached, moment}
 use Rattle.rm_arrival.specs.Few.{AllAcked, IsDueAt, time_at}
 use Rattle.rm_arrival.specs.Nodes.{Stands}
-use Rattle.rm_arrival.specs.Rounds.{AreEnough, AreQuiet, AreTurns, EachHasItsTurn, IsTurn, NamesNoneMissing, run_rounds}
+use Rattle.rm_arrival.specs.Rounds.{AreEnough, AreQuiet, AreTurns, IsTurn, NamesNoneMissing, run_rounds}
 use Rattle.rm_arrival.specs.Runs.{WaitsRight}
 use Rattle.rm_arrival.proofs.ArriveLemmas.{due-then}
-use Rattle.rm_arrival.proofs.BringLemmas.{round-brings, round-keeps, round-onward, tick-waits, tick_of}
+use Rattle.rm_arrival.proofs.BringLemmas.{round-brings, round-onward, tick-waits, tick_of}
 use Rattle.rm_arrival.proofs.FewLemmas.{stood, waits-else}
 use Rattle.rm_arrival.proofs.MemberLemmas.{filter-join, numbered-longer}
 use Rattle.rm_arrival.proofs.OnwardLemmas.{IsOfRound, Onward, StaysSound, onward-refl, onward-then, run-join}

@@ -1,6 +1,5 @@
 -- Two nodes that were just made are sound, and so is each world of their runs.
 use Rattle.std.proofs.Common.{◌≡◌, ℕ, ◌+◌, ◌≤◌, true, List, [], ◌∷◌, refl, arith}
-use Rattle.std.specs.List.{AllByRecursion}
 use Rattle.std.proofs.lemmas.Bool.Decides.{nat_tests}
 use Rattle.rm_base.specs.Limits.{journal_bytes}
 use Rattle.record_batch.specs.Fact.{Fact, Made}

@@ -1,6 +1,6 @@
 -- What stays of a sequence, and of the node, whatever records come behind.
 use Rattle.std.proofs.Common.{◌≡◌, ◌⊎◌, ℕ, suc, ◌+◌, ◌-◌, ◌<◌, ◌≤◌, ◌==◌, ◌||◌, not, nat_le, cond, Bool, true, false}
-use Rattle.std.proofs.Common.{List, [], ◌∷◌, ◌++◌, length, map, refl, sym, ap, ◌∙◌, subst, arith, inl, inr}
+use Rattle.std.proofs.Common.{List, [], ◌∷◌, ◌++◌, length, refl, sym, ap, ◌∙◌, arith, inl, inr}
 use Rattle.std.specs.Prelude.{Option, Some, None}
 use Rattle.std.specs.List.{flat_map}
 use Rattle.std.specs.Str.{bytes_eq}
@@ -11,7 +11,7 @@ use Rattle.std.proofs.lemmas.List.Concat.{flat_map-append}
 use Rattle.rm_base.specs.NumberSet.{has_number}
 use Rattle.rm_base.specs.declared.message.Payload.{Payload}
 use Rattle.rm_sides.specs.Ranges.Ranges.{in_ranges}
-use Rattle.rm_sides.specs.Destination.Messages.{front_of, is_empty, numbers_of}
+use Rattle.rm_sides.specs.Destination.Messages.{is_empty, numbers_of}
 use Rattle.rm_sides.specs.Destination.ItemLemmas.{has_number-held, has-more}
 use Rattle.rm_sides.specs.Destination.Laws.{FrontIsReached, IsFront}
 use Rattle.wsa_headers.specs.declared.endpoint.Epr.{Epr}
@@ -25,7 +25,7 @@ use Rattle.record_batch.specs.Sequences.Makers.{Maker, Outgoing, Offered, Incomi
 use Rattle.record_batch.specs.Sequences.Makers.{maker}
 use Rattle.record_batch.specs.Sequences.Makers.{makers, makers_of, nodes_of, number, seq_in}
 use Rattle.record_batch.specs.Sequences.Sources.{out_ident}
-use Rattle.record_batch.specs.Sequences.Destinations.{close_of, closes, deadline_of, front, has_end, held, is_ended}
+use Rattle.record_batch.specs.Sequences.Destinations.{close_of, closes, deadline_of, front, held, is_ended}
 use Rattle.record_batch.specs.Sequences.Destinations.{is_over, is_stopped, items, purged, purged_of, received}
 use Rattle.record_batch.specs.Sequences.Destinations.{received_of}
 use Rattle.record_batch.specs.Sequences.Fits.{all_fit}

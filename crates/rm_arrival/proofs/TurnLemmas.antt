@@ -1,9 +1,9 @@
 -- Each key has its turn: a tick that doesn't emit it emits 64 that stand before it, and each of them comes nearer to
 -- standing behind it.
-use Rattle.std.proofs.Common.{◌≡◌, ◌⊎◌, ℕ, zero, suc, ◌+◌, ◌-◌, ◌<◌, ◌≤◌, ◌==◌, ◌&&◌, ◌||◌, min, nat_le, nat_lt, not}
+use Rattle.std.proofs.Common.{◌≡◌, ℕ, zero, suc, ◌+◌, ◌-◌, ◌<◌, ◌≤◌, ◌==◌, ◌&&◌, ◌||◌, min, nat_le, nat_lt, not}
 use Rattle.std.proofs.Common.{cond, Bool, true, false, List, [], ◌∷◌, ◌++◌, length, map, filter, take, refl, sym, ap}
 use Rattle.std.proofs.Common.{◌∙◌}
-use Rattle.std.proofs.Common.{subst, arith, inl, inr, append-nil, append_assoc, length-append}
+use Rattle.std.proofs.Common.{subst, arith, append-nil, append_assoc}
 use Rattle.std.specs.Prelude.{flat_map}
 use Rattle.std.specs.List.{AllByRecursion}
 use Rattle.std.proofs.lemmas.Bool.{false≢true}
@@ -15,7 +15,6 @@ use Rattle.timers.specs.Keys.KeyLemmas.{same_key-refl, same_key-sym}
 use Rattle.timers.specs.Keys.Waits.{Wait, at_key, due_at, emitted, first_due, has_key, keys_of, most_emitted, same_key}
 use Rattle.timers.specs.Keys.Waits.{send_all, sent, without}
 use Rattle.timers.specs.Slots.Waits.{classes_in_order}
-use Rattle.rm_arrival.specs.Few.{IsDueAt}
 use Rattle.rm_arrival.proofs.MemberLemmas.{filter-join}
 
 -- ---- how often a key may still come before one of class c

@@ -1,19 +1,18 @@
 -- No acknowledgement of a sound world has a number past what its source accepted.
-use Rattle.std.proofs.Common.{◌≡◌, ◌⊎◌, ℕ, zero, suc, ◌+◌, ◌<◌, ◌≤◌, ◌==◌, ◌&&◌, ◌||◌, nat_le, nat_lt, cond, Bool, true}
+use Rattle.std.proofs.Common.{◌≡◌, ◌⊎◌, ℕ, suc, ◌+◌, ◌≤◌, ◌==◌, ◌||◌, nat_lt, cond, Bool, true}
 use Rattle.std.proofs.Common.{false, List, [], ◌∷◌, ◌++◌, length, refl, sym, ap, ◌∙◌, subst, arith, inl, inr}
 use Rattle.std.specs.Prelude.{Option, Some, None}
-use Rattle.std.specs.List.{AllByRecursion, flat_map, list_any}
+use Rattle.std.specs.List.{AllByRecursion}
 use Rattle.std.proofs.lemmas.Bool.{eqb-true}
 use Rattle.std.proofs.lemmas.Bool.Decides.{nat_tests}
 use Rattle.rm_base.specs.Message.{max_number}
 use Rattle.rm_base.specs.Numbered.{numbered}
 use Rattle.rm_base.specs.NumberSet.{has_number}
-use Rattle.rm_base.specs.declared.message.Payload.{Payload}
 use Rattle.rm_message.specs.declared.elements.header.AckBlock.{AckBlock}
 use Rattle.rm_sides.specs.declared.ranges.range.Range.{Range}
 use Rattle.rm_sides.specs.Destination.Messages.{numbers_of}
 use Rattle.rm_sides.specs.Ranges.Laws.{UnionHasBoth}
-use Rattle.rm_sides.specs.Ranges.Ranges.{in_range, in_ranges, is_between}
+use Rattle.rm_sides.specs.Ranges.Ranges.{in_range, in_ranges}
 use Rattle.wsa_headers.specs.declared.endpoint.Epr.{Epr}
 use Rattle.record_batch.specs.Fact.{Fact, Received}
 use Rattle.record_batch.specs.Snapshot.AckedLemmas.{unions}
@@ -22,7 +21,7 @@ use Rattle.record_batch.specs.Sequences.Words.{Text, first_or}
 use Rattle.record_batch.specs.Sequences.Idents.{issue}
 use Rattle.record_batch.specs.Sequences.Makers.{Maker, ident_in, maker, makers, number}
 use Rattle.record_batch.specs.Sequences.Sources.{accepted, accepted_count, acked, out_ident}
-use Rattle.record_batch.specs.Sequences.Destinations.{received, received_of}
+use Rattle.record_batch.specs.Sequences.Destinations.{received}
 use Rattle.record_batch.specs.Sequences.Fits.{all_fit}
 use Rattle.record_batch.specs.Sequences.Find.{IsIncoming, IsOutgoing, find_outgoing, incoming_of}
 use Rattle.rm_protocol.specs.Messages.{ack_message}
@@ -32,7 +31,7 @@ use Rattle.rm_protocol.specs.Sound.{AreWith, IfWith, IsSound, IsSourced, IsWith,
 use Rattle.rm_protocol.specs.Sound.{StandFor}
 use Rattle.rm_protocol.specs.Terms.{Terms}
 use Rattle.rm_protocol.specs.Verdict.{is_above, is_invalid, is_invalid_at}
-use Rattle.rm_protocol.specs.World.{One, Packet, Side, Two, World, node, other}
+use Rattle.rm_protocol.specs.World.{One, Side, Two, World, node, other}
 use Rattle.rm_arrival.proofs.MemberLemmas.{all-numbered, numbered-within}
 use Rattle.rm_arrival.proofs.WaitLemmas.{Has}
 

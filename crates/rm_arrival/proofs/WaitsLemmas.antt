@@ -1,5 +1,5 @@
 -- In each world of a run what waits is what waits by the records, and is due soon.
-use Rattle.std.proofs.Common.{nat_le, ◌≡◌, ◌⊎◌, ℕ, ◌+◌, ◌-◌, ◌==◌, ◌≤◌, ◌&&◌, ◌||◌, max, nat_lt, not, cond, Bool}
+use Rattle.std.proofs.Common.{nat_le, ◌≡◌, ◌⊎◌, ℕ, ◌+◌, ◌-◌, ◌==◌, ◌&&◌, max, nat_lt, not, cond, Bool}
 use Rattle.std.proofs.Common.{true, false}
 use Rattle.std.proofs.Common.{List, []}
 use Rattle.std.proofs.Common.{◌∷◌, ◌++◌}
@@ -11,8 +11,6 @@ use Rattle.std.specs.Option.{option_to_list}
 use Rattle.rm_base.specs.Limits as limits
 use Rattle.rm_base.specs.Message.{max_number}
 use Rattle.rm_base.specs.Numbered.{numbered}
-use Rattle.rm_base.specs.declared.lapse.Lapse.{Lapse}
-use Rattle.rm_base.specs.declared.message.Behaviour.{Behaviour}
 use Rattle.rm_base.specs.declared.message.Cause.TheVariants.{Operator, Expired}
 use Rattle.rm_message.specs.declared.message.Message.{Message}
 use Rattle.rm_message.specs.declared.refusal.FaultKind.{FaultKind}
@@ -20,7 +18,6 @@ use Rattle.rm_message.specs.declared.refusal.Refusal.{Refusal}
 use Rattle.rm_sides.specs.Destination.Incoming.{is_past}
 use Rattle.timers.specs.declared.slots.timers.Key.{Key}
 use Rattle.timers.specs.Keys.Waits.{first_due, has_key}
-use Rattle.record_batch.specs.declared.record.Via.{Via}
 use Rattle.record_batch.specs.Fact.{Fact, Accepted, Closed, Closing, Consumed, Creating, Ended, Ending, Made}
 use Rattle.record_batch.specs.Snapshot.Same.{HaveProper}
 use Rattle.record_batch.specs.Snapshot.Snapshot.{snapshot}

@@ -11,7 +11,7 @@ ghost use Rattle.rm_protocol.specs.Waiting.{is_waiting, key};
 ghost use Rattle.rm_protocol.specs.World.{run};
 ghost use Rattle.rm_sides.specs.Ranges.Ranges.{in_ranges};
 ghost use Rattle.rm_arrival.specs.Examples.{a_fair_round, a_waiting_source, an_open_destination, with_one_lost};
-ghost use Rattle.rm_arrival.specs.Requests.{ResponsesEnd};
+ghost use Rattle.rm_arrival.specs.Requests.{RequestIsSaid, ResponsesEnd, WaitingHasRequest};
 ghost use Rattle.rm_arrival.specs.Round.{AckEndsTheWait, ArrivesInARound, DueIsSaid, HeldIsAcked, WaitEndsForGood};
 ghost use Rattle.rm_arrival.specs.Round.{AckIsTaken, DataIsTaken, FewAreAllEmitted, WaitingHasData};
 ghost use Rattle.rm_arrival.specs.Fair.{ARoundBrings, IsFair};
@@ -59,6 +59,16 @@ pub fn what_waits_is_there()
 /// Of the keys that a tick emits, each of a message that waits is said as its data.
 pub fn what_is_due_is_said()
     ensures { DueIsSaid }
+{}
+
+/// A request that waits is there to be said: a CreateSequence, a CloseSequence or a TerminateSequence.
+pub fn what_asks_is_there()
+    ensures { WaitingHasRequest }
+{}
+
+/// Of the keys that a tick emits, each of a request that waits is said as that request.
+pub fn what_asks_is_said()
+    ensures { RequestIsSaid }
 {}
 
 /// The row of the response to a request ends its wait.
