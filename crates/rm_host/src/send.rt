@@ -178,8 +178,8 @@ fn begin<D: Disk, L: Link, C: Clock>(
     }
 }
 
-// The first sequence to an address that is open or asked for.
-fn sequence_to(tables: &Tables, to: &Uri) -> Option<u32>
+/// The first sequence to an address that is open or asked for.
+pub fn sequence_to(tables: &Tables, to: &Uri) -> Option<u32>
     ensures { IsFirstTo tables.now.records to.now result }
 {
     for before in 0..tables.len() {
@@ -230,7 +230,8 @@ fn goes_to(tables: &Tables, seq: u32, to: &Uri) -> bool
     }
 }
 
-fn is_open(tables: &Tables, seq: u32) -> bool
+/// Whether a sequence sends, and is open.
+pub fn is_open(tables: &Tables, seq: u32) -> bool
     ensures { result ≡ is_open (outgoing_in tables.now.records seq) }
 {
     match tables.outgoing(seq) {

@@ -336,8 +336,8 @@ fn number_in(word: &Blob, low: u64, high: u64) -> Option<u64>
     Some(number)
 }
 
-// The address that a word is.
-fn address_of(alloc: Global, word: &Blob) -> Result<Uri, End>
+/// The address that a word is, where a packet can be posted to it.
+pub fn address_of(alloc: Global, word: &Blob) -> Result<Uri, End>
     ensures { ReadsAddress word.now result }
 {
     if !is_address(word.as_slice()) {

@@ -7,7 +7,7 @@
 pub mod laws;
 pub mod posting;
 pub mod serving;
-mod taking;
+pub mod taking;
 mod version;
 
 pub use posting::{Posted, post_due, post_due11};

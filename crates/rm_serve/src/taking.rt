@@ -10,7 +10,7 @@ use rm_disk::Disk;
 use rm_node::{Node, NodeError, Reaction};
 
 /// Gives bytes to the node: one call, as the protocol says, of what the bytes are read as; or nothing happens.
-pub(crate) fn hear<D: Disk>(
+pub fn hear<D: Disk>(
     node: &mut Node,
     disk: &mut D,
     now: u64,
