@@ -12,6 +12,7 @@ mod RunLemmas
 mod SendLemmas
 mod SequenceLemmas
 mod ServeLemmas
+mod ShowLemmas
 mod SoundLemmas
 mod StepLemmas
 mod WordLemmas

@@ -11,5 +11,6 @@ pub mod Runs
 pub mod SendSteps
 pub mod Sequences
 pub mod ServeSteps
+pub mod Shown
 pub mod Texts
 pub mod Words

@@ -16,7 +16,7 @@ pub(crate) fn push_inbox(text: &mut Blob, seq: u32, incoming: &Incoming) -> Resu
 }
 
 /// Appends the items of an inbox past one place, up to another, but for those that are gone.
-pub(crate) fn push_items(
+pub fn push_items(
     text: &mut Blob,
     seq: u32,
     incoming: &Incoming,

@@ -13,14 +13,15 @@ pub mod consume;
 pub mod end;
 pub mod host;
 pub mod import;
-mod items;
+pub mod items;
 pub mod laws;
 pub mod program;
 pub mod send;
 pub mod serve;
+pub mod show;
 pub mod words;
 
 pub use end::End;
 pub use host::Host;
-pub use program::{explain, explain_disk, run, start};
+pub use program::{explain, explain_disk, run};
 pub use words::is_of_node;

@@ -13,16 +13,12 @@ use crate::import::import;
 use crate::send::send;
 use crate::serve::serve;
 use crate::words::{Command, command_of};
-use http_endpoint::link::{Fault as LinkFault, Link, TcpLink};
-use rm_base::words::{texts_given, words_behind};
-use rm_base::{
-    Blob, Clock, Memory, Sink, SinkError, Source, StdClock, StdSink, StdSource, write_all,
-};
+use http_endpoint::link::{Fault as LinkFault, Link};
+use rm_base::{Blob, Clock, Sink, SinkError, Source, write_all};
 use rm_disk::ReadDisk;
-use rm_disk::file::{Fault as DiskFault, FileDisk, NAME};
+use rm_disk::file::{Fault as DiskFault, NAME};
 use rm_script::report::exits;
 use std::alloc::Global;
-use std::process::ExitCode;
 
 /// Does what the words say, and answers the exit status.
 /// - `obeyed`: what each command does to the disk and to what the link brings, how it ends and what it prints is what
@@ -123,28 +119,6 @@ fn perform<S: Source, K: Sink, D: ReadDisk, L: Link, C: Clock>(
         Command::Consume { seq, upto } => consume(alloc, host, out, seq, upto),
         Command::Import => import(alloc, host, input),
     }
-}
-
-/// Runs the program over the words it was given, standard input and output, the file in the current folder, the
-/// network and the clock.
-pub fn start(rt: HostRuntime) -> ExitCode {
-    let status = match texts_given(&rt) {
-        Ok(given) => {
-            let words = words_behind(given.as_slice());
-            let mut input = StdSource::new(rt.stdin());
-            let mut out = StdSink::new(rt.stdout());
-            let mut host = Host {
-                disk: FileDisk::new(&rt),
-                link: TcpLink::new(&rt),
-                clock: StdClock::new(&rt),
-            };
-            let status = run(rt.alloc(), words, &mut input, &mut out, &mut host);
-            explain(&rt, status, host.disk.last_fault(), host.link.last_fault());
-            status
-        }
-        Err(Memory) => End::Memory.status(),
-    };
-    ExitCode::from(status)
 }
 
 /// Says on standard error what failed, where the status tells that the disk or the network did.
