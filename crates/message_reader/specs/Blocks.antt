@@ -6,8 +6,8 @@ use Rattle.std.specs.List.{filter, list_any}
 use Rattle.std.specs.Str.{bytes_eq}
 use Rattle.soap_document.specs.Profile.Tree.{Element, name_of, attrs_of}
 use Rattle.soap_document.specs.declared.profile.name.Expanded.{Expanded}
-use Rattle.soap_values.specs.Children.{name_in, is_same, has_name, value_among}
-use Rattle.soap_values.specs.Values.{is_true, trimmed}
+use Rattle.soap_writer.specs.Values.Children.{name_in, is_same, has_name, value_among}
+use Rattle.soap_writer.specs.Values.Values.{is_true, trimmed}
 use Rattle.soap_envelope.specs.Soap.{is_soap11}
 use Rattle.wsa_headers.specs.Addressing.{is_marked}
 use Rattle.wsa_headers.specs.Endpoint.{wsa}

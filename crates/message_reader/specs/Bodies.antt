@@ -7,8 +7,8 @@ use Rattle.rm_base.specs.declared.message.Payload.{Payload}
 use Rattle.soap_document.specs.Profile.Tree.{Element, Parts, children_of}
 use Rattle.rm_base.specs.declared.message.Binding.{Binding}
 use Rattle.soap_document.specs.declared.profile.name.Expanded.{Expanded}
-use Rattle.soap_values.specs.Children.{name_in, has_name}
-use Rattle.soap_values.specs.Outcome.{◌>>=◌, single}
+use Rattle.soap_writer.specs.Values.Children.{name_in, has_name}
+use Rattle.soap_writer.specs.Values.Outcome.{◌>>=◌, single}
 use Rattle.wsa_headers.specs.Addressing.{first_of}
 use Rattle.rm_message.specs.Elements.Lifecycle.{lifecycle_of}
 use Rattle.rm_message.specs.Elements.Outcome.{rm, mc}

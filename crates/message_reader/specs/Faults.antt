@@ -6,10 +6,10 @@ use Rattle.soap_lex.specs.Tests.{is_nil}
 use Rattle.soap_document.specs.Profile.Tree.{Element, parts_of, children_of, without_declarations}
 use Rattle.rm_base.specs.declared.message.Binding.{Binding}
 use Rattle.soap_document.specs.declared.profile.name.Expanded.{Expanded}
-use Rattle.soap_values.specs.Children.{name_in, children_named}
-use Rattle.soap_values.specs.Outcome.{◌>>=◌}
-use Rattle.soap_values.specs.QNames.{within, qname_in}
-use Rattle.soap_values.specs.Values.{trimmed_text}
+use Rattle.soap_writer.specs.Values.Children.{name_in, children_named}
+use Rattle.soap_writer.specs.Values.Outcome.{◌>>=◌}
+use Rattle.soap_writer.specs.Values.QNames.{within, qname_in}
+use Rattle.soap_writer.specs.Values.Values.{trimmed_text}
 use Rattle.wsa_headers.specs.Addressing.{first_of}
 use Rattle.rm_message.specs.declared.message.FaultBody.{FaultBody}
 use Rattle.rm_message.specs.declared.message.FaultCode.{FaultCode}

@@ -5,10 +5,10 @@ use Rattle.std.specs.Str.{bytes_eq}
 use Rattle.rm_base.specs.declared.message.Binding.{Binding}
 use Rattle.soap_document.specs.Profile.Tree.{Element}
 use Rattle.soap_document.specs.declared.profile.name.Expanded.{Expanded}
-use Rattle.soap_values.specs.Children.{is_same}
-use Rattle.soap_values.specs.Outcome.{◌>>=◌}
-use Rattle.soap_values.specs.QNames.{within, qname_in}
-use Rattle.soap_values.specs.Values.{trimmed_text}
+use Rattle.soap_writer.specs.Values.Children.{is_same}
+use Rattle.soap_writer.specs.Values.Outcome.{◌>>=◌}
+use Rattle.soap_writer.specs.Values.QNames.{within, qname_in}
+use Rattle.soap_writer.specs.Values.Values.{trimmed_text}
 use Rattle.soap_writer.specs.Frame.{addressing_space, messaging_space, connection_space}
 use Rattle.rm_message.specs.Elements.Outcome.{rm}
 use Rattle.rm_message.specs.declared.message.FaultBody.{FaultBody}

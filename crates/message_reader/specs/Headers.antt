@@ -5,10 +5,10 @@ use Rattle.std.specs.List.{flat_map}
 use Rattle.soap_document.specs.Profile.Tree.{Element, attrs_of, parts_of}
 use Rattle.rm_base.specs.declared.message.Binding.{Binding}
 use Rattle.soap_document.specs.declared.profile.name.Expanded.{Expanded}
-use Rattle.soap_values.specs.Children.{name_in, value_among, children_named}
-use Rattle.soap_values.specs.Outcome.{◌>>=◌, optional, single, each, if_present}
-use Rattle.soap_values.specs.QNames.{within, qname_in}
-use Rattle.soap_values.specs.Values.{trimmed_text}
+use Rattle.soap_writer.specs.Values.Children.{name_in, value_among, children_named}
+use Rattle.soap_writer.specs.Values.Outcome.{◌>>=◌, optional, single, each, if_present}
+use Rattle.soap_writer.specs.Values.QNames.{within, qname_in}
+use Rattle.soap_writer.specs.Values.Values.{trimmed_text}
 use Rattle.soap_envelope.specs.Soap.{is_soap11}
 use Rattle.rm_message.specs.Elements.Headers.{header_of}
 use Rattle.rm_message.specs.Elements.Outcome.{rm, mc}

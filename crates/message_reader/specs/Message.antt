@@ -7,7 +7,7 @@ use Rattle.rm_base.specs.declared.message.Payload.{Payload}
 use Rattle.soap_document.specs.Profile.Tree.{Element}
 use Rattle.soap_document.specs.declared.profile.name.Expanded.{Expanded}
 use Rattle.soap_envelope.specs.Envelope.{Envelope}
-use Rattle.soap_values.specs.Outcome.{◌>>=◌}
+use Rattle.soap_writer.specs.Values.Outcome.{◌>>=◌}
 use Rattle.wsa_headers.specs.Addressing.{addressing_in, uri_header}
 use Rattle.wsa_headers.specs.Endpoint.{wsa}
 use Rattle.wsa_headers.specs.declared.addressing.Addressing.{Addressing}

@@ -3,9 +3,9 @@ ghost use Rattle.std.specs.Prelude.{◌≡◌, ◌++◌, map, option_map, IfOk};
 ghost use Rattle.std.specs.Str.{bytes_eq};
 ghost use Rattle.soap_document.specs.Profile.View.{element_view};
 ghost use Rattle.soap_document.specs.Profile.Tree.{attrs_of};
-ghost use Rattle.soap_values.specs.Children.{name_in, is_same, value_among};
-ghost use Rattle.soap_values.specs.Outcome.{Gives, optional};
-ghost use Rattle.soap_values.specs.Steps.{lent_trees};
+ghost use Rattle.soap_writer.specs.Values.Children.{name_in, is_same, value_among};
+ghost use Rattle.soap_writer.specs.Values.Outcome.{Gives, optional};
+ghost use Rattle.soap_writer.specs.Values.Steps.{lent_trees};
 ghost use Rattle.message_reader.specs.Blocks.{
   is_block as is_block_of,
   blocks,
@@ -28,7 +28,7 @@ use rm_message::Names;
 use rm_message::elements::{MESSAGING, header_name};
 use soap_document::profile::{Element, Name};
 use soap_envelope::is_soap11;
-use soap_values::{Flaw, find_value, is_named, is_true_mark, trim};
+use soap_writer::values::{Flaw, find_value, is_named, is_true_mark, trim};
 use std::alloc::Global;
 use wsa_headers::{ADDRESSING, is_parameter};
 

@@ -2,8 +2,8 @@
 ghost use Rattle.std.specs.Prelude.{◌≡◌, option_map, IfOk};
 ghost use Rattle.soap_document.specs.Profile.Tree.{children_of};
 ghost use Rattle.soap_document.specs.Profile.View.{element_view, parts_view};
-ghost use Rattle.soap_values.specs.Children.{name_in};
-ghost use Rattle.soap_values.specs.Outcome.{Gives, single};
+ghost use Rattle.soap_writer.specs.Values.Children.{name_in};
+ghost use Rattle.soap_writer.specs.Values.Outcome.{Gives, single};
 ghost use Rattle.wsa_headers.specs.Addressing.{first_of};
 ghost use Rattle.rm_message.specs.Elements.Lifecycle.{lifecycle_of};
 ghost use Rattle.message_reader.specs.Bodies.{
@@ -28,7 +28,7 @@ use rm_message::elements::{CONNECTION, ElementError, MESSAGING, read_lifecycle};
 use rm_message::{Body, FaultBody, actions};
 use soap_document::profile::{Element, Item, Parts};
 use soap_envelope::is_soap11;
-use soap_values::{Flaw, is_named};
+use soap_writer::values::{Flaw, is_named};
 use std::alloc::Global;
 
 // A name: a namespace and a local part.
@@ -86,7 +86,7 @@ pub(crate) fn items_of(parts: &Parts) -> &[Item]
 }
 
 // The first element in the Body.
-#[tactic(auto, using(soap_values::specs::ChildLaws::children_of_more))]
+#[tactic(auto, using(soap_writer::specs::Values::ChildLaws::children_of_more))]
 fn first_child(items: &[Item]) -> Option<&Element>
     ensures { option_map (λ e. element_view e.now) result ≡ first_of (children_of (parts_view items.now)) }
 {
@@ -99,7 +99,7 @@ fn first_child(items: &[Item]) -> Option<&Element>
 }
 
 // The one element in the Body.
-#[tactic(auto, using(soap_values::specs::ChildLaws::children_of_more))]
+#[tactic(auto, using(soap_writer::specs::Values::ChildLaws::children_of_more))]
 fn only_child(items: &[Item]) -> Result<&Element, Flaw>
     ensures { Gives (λ e. element_view e.now) result (single (children_of (parts_view items.now))) }
 {

@@ -2,9 +2,9 @@
 ghost use Rattle.std.specs.Prelude.{◌≡◌, ◌∷◌, [], ◌++◌, Option, map, option_map, IfOk, OnOk, Some};
 ghost use Rattle.soap_document.specs.Profile.Tree.{children_of, without_declarations};
 ghost use Rattle.soap_document.specs.Profile.View.{element_view, parts_view};
-ghost use Rattle.soap_values.specs.Children.{name_in, children_named};
-ghost use Rattle.soap_values.specs.Outcome.{Gives};
-ghost use Rattle.soap_values.specs.Steps.{lent_trees};
+ghost use Rattle.soap_writer.specs.Values.Children.{name_in, children_named};
+ghost use Rattle.soap_writer.specs.Values.Outcome.{Gives};
+ghost use Rattle.soap_writer.specs.Values.Steps.{lent_trees};
 ghost use Rattle.wsa_headers.specs.Addressing.{first_of};
 ghost use Rattle.message_reader.specs.Faults.{
   first_named,
@@ -28,7 +28,7 @@ ghost use Rattle.message_reader.specs.Faults.{
 use rm_base::{Binding, Blob, Memory};
 use rm_message::{FaultBody, FaultCode};
 use soap_document::profile::{Element, Elements, Item, Name, strip};
-use soap_values::{Flaw, is_named, read_qname, read_trimmed};
+use soap_writer::values::{Flaw, is_named, read_qname, read_trimmed};
 use std::alloc::Global;
 
 /// The code of a Fault, and the names of its Subcode and of the one within it.
@@ -40,7 +40,7 @@ pub(crate) struct Codes {
 }
 
 // The first child of a name.
-#[tactic(auto, using(soap_values::specs::ChildLaws::children_more))]
+#[tactic(auto, using(soap_writer::specs::Values::ChildLaws::children_more))]
 pub(crate) fn find_first<'a>(items: &'a [Item], space: &[u8], local: &[u8]) -> Option<&'a Element>
     ensures { option_map (λ e. element_view e.now) result
         ≡ first_of (children_named (name_in space.now local.now) (parts_view items.now)) }
@@ -255,7 +255,7 @@ pub(crate) fn blob_or_empty(alloc: Global, found: Option<Blob>) -> Blob
 }
 
 // The elements among items, without declarations.
-#[tactic(auto, using(soap_values::specs::ChildLaws::children_of_more))]
+#[tactic(auto, using(soap_writer::specs::Values::ChildLaws::children_of_more))]
 fn strip_each(alloc: Global, items: &[Item]) -> Result<Elements, Memory>
     ensures { IfOk result (λ elements. elements ≡ map without_declarations (children_of (parts_view items.now))) }
 {

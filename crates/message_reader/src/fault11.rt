@@ -2,7 +2,7 @@
 //! 4. No Fault is refused: what can't be read is absent.
 ghost use Rattle.std.specs.Prelude.{◌≡◌, map, option_map, IfOk};
 ghost use Rattle.soap_document.specs.Profile.View.{element_view};
-ghost use Rattle.soap_values.specs.Outcome.{Gives, if_present};
+ghost use Rattle.soap_writer.specs.Values.Outcome.{Gives, if_present};
 ghost use Rattle.message_reader.specs.Faults.{spaced, fault_with as fault_of_parts};
 ghost use Rattle.message_reader.specs.Faults11.{
   faultcode_in,
@@ -26,7 +26,7 @@ use rm_message::elements::{CONNECTION, MESSAGING};
 use rm_message::{FaultBody, FaultCode};
 use soap_document::profile::{Element, Elements, Name};
 use soap_envelope::is_soap11;
-use soap_values::{Flaw, find_optional, find_single, is_named, read_qname, read_trimmed};
+use soap_writer::values::{Flaw, find_optional, find_single, is_named, read_qname, read_trimmed};
 use std::alloc::Global;
 use wsa_headers::ADDRESSING;
 

@@ -3,8 +3,8 @@
 ghost use Rattle.std.specs.Prelude.{◌≡◌, ◌++◌, map, option_map, IfOk, OnOk, Some};
 ghost use Rattle.std.specs.List.{flat_map};
 ghost use Rattle.soap_document.specs.Profile.View.{element_view};
-ghost use Rattle.soap_values.specs.Outcome.{Gives, each, if_present};
-ghost use Rattle.soap_values.specs.Steps.{lent_trees};
+ghost use Rattle.soap_writer.specs.Values.Outcome.{Gives, each, if_present};
+ghost use Rattle.soap_writer.specs.Values.Steps.{lent_trees};
 ghost use Rattle.message_reader.specs.Headers.{
   listed,
   ack_of,
@@ -27,7 +27,7 @@ use rm_message::elements::{
 use rm_message::{Acks, Idents, Names};
 use soap_document::profile::{Element, Name};
 use soap_envelope::is_soap11;
-use soap_values::{Flaw, find_value, read_qname};
+use soap_writer::values::{Flaw, find_value, read_qname};
 use std::alloc::Global;
 
 /// The number that a message has in a sequence: it has none, it is this one, or it is above the greatest.

@@ -2,7 +2,7 @@
 ghost use Rattle.std.specs.Prelude.{◌≡◌, codes, map, IfOk};
 ghost use Rattle.soap_document.specs.Profile.View.{element_view};
 ghost use Rattle.soap_envelope.specs.View.{envelope_view};
-ghost use Rattle.soap_values.specs.Outcome.{Gives};
+ghost use Rattle.soap_writer.specs.Values.Outcome.{Gives};
 ghost use Rattle.wsa_headers.specs.Addressing.{uri_header};
 ghost use Rattle.message_reader.specs.Message.{
   is_create as is_create_by,
@@ -30,7 +30,7 @@ use rm_message::elements::{MESSAGING, SeqHeader};
 use rm_message::{Acks, Body, Idents, Message, Names, actions};
 use soap_document::profile::{Element, Parts};
 use soap_envelope::Envelope;
-use soap_values::Flaw;
+use soap_writer::values::Flaw;
 use std::alloc::Global;
 use wsa_headers::{ADDRESSING, Addressing, AddressingError, read_address_of, read_addressing};
 

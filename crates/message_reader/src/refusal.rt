@@ -1,6 +1,6 @@
 //! Refusals, with where their faults go: WS-Addressing 1.0 Core, section 3.4.
 ghost use Rattle.std.specs.Prelude.{◌≡◌, Option, Some, None, option_map, IfOk};
-ghost use Rattle.soap_values.specs.Outcome.{Gives};
+ghost use Rattle.soap_writer.specs.Values.Outcome.{Gives};
 ghost use Rattle.wsa_headers.specs.Addressing.{anonymous as anonymous_uri};
 ghost use Rattle.message_reader.specs.Outcome.{wrong_of};
 ghost use Rattle.message_reader.specs.Refusals.{
@@ -15,7 +15,7 @@ use crate::cause::Cause;
 use rm_base::{Ident, Items, Memory, Uri};
 use rm_message::{FaultKind, Names, Refusal};
 use soap_document::profile::Elements;
-use soap_values::{Flaw, read_uri};
+use soap_writer::values::{Flaw, read_uri};
 use std::alloc::Global;
 use wsa_headers::{ANONYMOUS, Addressing, Epr};
 

@@ -8,7 +8,7 @@ use Rattle.soap_writer.specs.Frame.{addressing_space, messaging_space, connectio
 use Rattle.soap_writer.specs.Nodes.Node.{Tag as NodeTag, bare, Node, Nodes, full, nothing, words, more}
 use Rattle.wsa_headers.specs.Texts.{params_nodes}
 use Rattle.rm_message.specs.Elements.Texts.{r}
-use Rattle.soap_values.specs.Children.{name_in}
+use Rattle.soap_writer.specs.Values.Children.{name_in}
 use Rattle.message_writer.specs.declared.tag.Tag.TheVariants as tags
 use Rattle.message_writer.specs.Text.{tag_of, qname, qname_notes, words_of}
 use Rattle.rm_message.specs.declared.message.FaultBody.{FaultBody}

@@ -12,7 +12,7 @@ use Rattle.soap_envelope.specs.Envelope.{Envelope, name_in}
 use Rattle.soap_writer.specs.Writable.{IsNameWritable, IsWritable}
 use Rattle.soap_envelope.specs.Frame.Framed.{Block, sorted_scope, framed_envelope}
 use Rattle.soap_writer.specs.Nodes.Node.{Node, node_text, node_tree}
-use Rattle.soap_values.specs.Values.{trimmed}
+use Rattle.soap_writer.specs.Values.Values.{trimmed}
 use Rattle.wsa_headers.specs.Addressing.{first_of}
 use Rattle.wsa_headers.specs.Writable.{IsAddressingWritable}
 use Rattle.wsa_headers.specs.declared.addressing.Addressing.{Addressing}

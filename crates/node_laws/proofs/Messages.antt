@@ -28,7 +28,7 @@ use Rattle.soap_envelope.specs.Frame.Framed.{sorted_scope}
 use Rattle.soap_document.specs.Profile.Payload.{IsClosedContent}
 use Rattle.soap_envelope.specs.Soap.{soap_space}
 use Rattle.soap_document.specs.Profile.Tree.{Element}
-use Rattle.soap_values.specs.TextLaws.{literal_is_text}
+use Rattle.soap_writer.specs.Values.TextLaws.{literal_is_text}
 use Rattle.wsa_headers.specs.Writable.{IsEprWritable, IsAddressingWritable, IsParamWritable}
 use Rattle.wsa_headers.specs.declared.addressing.Addressing.{Addressing}
 use Rattle.wsa_headers.specs.declared.endpoint.Epr.{Epr}

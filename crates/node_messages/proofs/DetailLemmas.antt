@@ -2,7 +2,7 @@
 use Rattle.std.proofs.Common.{◌≡◌, cond, refl}
 use Rattle.std.specs.Prelude.{None}
 use Rattle.soap_document.specs.Profile.Tree.{Element, element}
-use Rattle.soap_values.specs.Values.{trimmed_text}
+use Rattle.soap_writer.specs.Values.Values.{trimmed_text}
 use Rattle.rm_protocol.specs.Detail.{ident_of}
 use Rattle.node_messages.specs.Details.{is_identifier}
 

@@ -7,7 +7,7 @@ ghost use Rattle.node_messages.specs.Details.{is_identifier as is_identifier_in}
 use rm_base::{Blob, Memory};
 use rm_message::elements::MESSAGING;
 use soap_document::profile::Element;
-use soap_values::{Flaw, read_trimmed};
+use soap_writer::values::{Flaw, read_trimmed};
 use std::alloc::Global;
 
 fn is_identifier(element: &Element) -> bool

@@ -14,8 +14,8 @@ use node_laws::sizes::parts::{endpoint_len, uri_len};
 use rm_base::Memory;
 use rm_base::limits::{CONTENT_DEPTH, PARAMETER_BYTES};
 use soap_document::profile::{Element, Item, is_shallow};
-use soap_values::is_named;
 use soap_writer::stripped::laws::elements_may_be_written;
+use soap_writer::values::is_named;
 use std::alloc::Global;
 use wsa_headers::{ADDRESSING, Epr};
 

@@ -8,7 +8,7 @@ use Rattle.std.specs.List.{flat_map, AllByRecursion}
 use Rattle.std.proofs.lemmas.Bool.{le-ltb, ltb-false}
 use Rattle.std.proofs.lemmas.List.{take_at, drop_at, length-append, take-append-drop, length-take-le, get_or-append-add}
 use Rattle.std.proofs.lemmas.Nat.{from_be_bytes-to_be_bytes_4, from_be_bytes-to_be_bytes_8, be_bytes_4, be_bytes_8}
-use Rattle.soap_values.specs.Outcome.{◌>>=◌}
+use Rattle.soap_writer.specs.Values.Outcome.{◌>>=◌}
 use Rattle.record_batch.specs.Format.{Format, byte, first_byte, front_number, number32, number64, front_bytes, text}
 use Rattle.record_batch.specs.Format.{◌&◌, written_as, optional, optional_text, read_marked, read_items, counted}
 use Rattle.record_batch.specs.Format.{AreBytes, IsCounted, IsFront, IsFormat}

@@ -2,7 +2,7 @@
 use Rattle.std.proofs.Common.{◌≡◌, ℕ, suc, ◌+◌, ◌-◌, ◌<◌, ◌≤◌, List, [], ◌∷◌, length, Some, None, refl, sym, ap, ◌∙◌}
 use Rattle.std.proofs.Common.{arith}
 use Prim.Native.Nat.{zero}
-use Rattle.soap_values.specs.Outcome.{◌>>=◌}
+use Rattle.soap_writer.specs.Values.Outcome.{◌>>=◌}
 use Rattle.record_batch.specs.Batch.{fact, fact_at, all_of, batch_at}
 use Rattle.record_batch.specs.Fact.{Fact}
 use Rattle.record_batch.specs.Format.{Format, number32, read_items}

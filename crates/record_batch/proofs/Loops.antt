@@ -2,9 +2,9 @@
 use Rattle.std.proofs.Common.{◌≡◌, ℕ, suc, ◌+◌, ◌-◌, ◌<◌, ◌≤◌, List, [], ◌∷◌, ◌++◌, Option, Some, None, refl, sym}
 use Rattle.std.proofs.Common.{ap, ◌∙◌, append_assoc, arith}
 use Rattle.std.proofs.lemmas.List.{append-nil}
-use Rattle.soap_values.specs.declared.flaw.Flaw.{Flaw}
-use Rattle.soap_values.specs.declared.flaw.Flaw.TheVariants.{Memory, Malformed}
-use Rattle.soap_values.specs.Outcome.{◌>>=◌, Fails}
+use Rattle.soap_writer.specs.declared.values.flaw.Flaw.{Flaw}
+use Rattle.soap_writer.specs.declared.values.flaw.Flaw.TheVariants.{Memory, Malformed}
+use Rattle.soap_writer.specs.Values.Outcome.{◌>>=◌, Fails}
 use Rattle.record_batch.specs.Format.{Format, read_items}
 
 -- what is read behind values that are there

@@ -21,8 +21,8 @@ use Rattle.soap_document.specs.Tree as raw
 use Rattle.soap_document.specs.Profile.Document.{Document, IsLongestText}
 use Rattle.soap_document.specs.Profile.Namespaces.{resolve}
 use Rattle.soap_document.specs.Profile.Tree.{Element, without_declarations}
-use Rattle.soap_values.specs.Outcome.{◌>>=◌}
-use Rattle.soap_values.specs.Values.{text_within}
+use Rattle.soap_writer.specs.Values.Outcome.{◌>>=◌}
+use Rattle.soap_writer.specs.Values.Values.{text_within}
 use Rattle.soap_writer.specs.ElementText.{element_text}
 use Rattle.record_batch.specs.declared.record.OwnOffer.{OwnOffer}
 use Rattle.record_batch.specs.declared.record.Via.{Via}

@@ -15,8 +15,8 @@ use Rattle.rm_base.specs.declared.lapse.Lapse.{Lapse}
 use Rattle.soap_document.specs.Machine.{run, start, root_of}
 use Rattle.soap_document.specs.Profile.Namespaces.{resolve}
 use Rattle.soap_document.specs.Profile.Tree.{Element, without_declarations}
-use Rattle.soap_values.specs.Outcome.{◌>>=◌}
-use Rattle.soap_values.specs.Values.{text_within}
+use Rattle.soap_writer.specs.Values.Outcome.{◌>>=◌}
+use Rattle.soap_writer.specs.Values.Values.{text_within}
 use Rattle.soap_writer.specs.ElementText.{element_text}
 use Rattle.wsa_headers.specs.declared.endpoint.Epr.{Epr}
 use Rattle.record_batch.specs.declared.record.OwnOffer.{OwnOffer}

@@ -1,6 +1,6 @@
 //! Batches of records from bytes.
 ghost use Rattle.std.specs.Prelude.{◌≡◌, ◌<◌, map, IfOk, IfErr, Some};
-ghost use Rattle.soap_values.specs.Outcome.{Gives};
+ghost use Rattle.soap_writer.specs.Values.Outcome.{Gives};
 ghost use Rattle.record_batch.specs.Batch.{
   creating_of,
   granted_of,
@@ -46,7 +46,7 @@ use crate::readers::{
 };
 use crate::record::Record;
 use rm_base::{Cause, Items};
-use soap_values::Flaw;
+use soap_writer::values::Flaw;
 use std::alloc::Global;
 
 #[tactic(auto, unfolding(crate::specs::Batch::made))]

@@ -2,7 +2,7 @@
 ghost use Rattle.std.specs.Prelude.{◌≡◌, option_map, false, IfOk};
 ghost use Rattle.std.specs.Str.{bytes_eq};
 ghost use Rattle.soap_document.specs.Profile.View.{element_view};
-ghost use Rattle.soap_values.specs.Outcome.{Gives};
+ghost use Rattle.soap_writer.specs.Values.Outcome.{Gives};
 ghost use Rattle.soap_writer.specs.ElementText.{element_text};
 ghost use Rattle.record_batch.specs.Format.{first_byte, number32, number64, text, optional, read_items};
 ghost use Rattle.record_batch.specs.Parts.{
@@ -37,7 +37,7 @@ use rm_base::{
 use rm_sides::ranges::{Range, RangeSet};
 use soap_document::laws::{document_is_read, document_is_utf8};
 use soap_document::profile::{Element, Elements, EnvelopeError, read_element, strip};
-use soap_values::{Flaw, read_ident, read_uri};
+use soap_writer::values::{Flaw, read_ident, read_uri};
 use soap_writer::write_element;
 use std::alloc::Global;
 use wsa_headers::Epr;

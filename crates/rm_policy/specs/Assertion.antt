@@ -5,9 +5,9 @@ use Rattle.std.specs.Prelude.{None, is_some, Result, Ok, Err, codes}
 use Rattle.std.specs.Str.{bytes_eq}
 use Rattle.soap_document.specs.Profile.Tree.{Element, name_of, attrs_of, parts_of}
 use Rattle.soap_document.specs.declared.profile.tree.Attr.{Attr}
-use Rattle.soap_values.specs.Children.{name_in, has_name, value_among}
-use Rattle.soap_values.specs.Outcome.{◌>>=◌, optional, single}
-use Rattle.soap_values.specs.Values.{trimmed, is_true}
+use Rattle.soap_writer.specs.Values.Children.{name_in, has_name, value_among}
+use Rattle.soap_writer.specs.Values.Outcome.{◌>>=◌, optional, single}
+use Rattle.soap_writer.specs.Values.Values.{trimmed, is_true}
 use Rattle.rm_policy.specs.Content.{children_as, content_of, first_of}
 use Rattle.rm_policy.specs.Words.{rmp, policy_space, older_policy_space, assurance_named}
 use Rattle.rm_policy.specs.declared.assertion.Assertion.{Assertion}

@@ -3,7 +3,7 @@ use Rattle.std.specs.Prelude.{ℕ, List, Bool, ◌||◌, if◌then◌else◌, Op
 use Rattle.std.specs.List.{list_any}
 use Rattle.std.specs.Str.{bytes_eq}
 use Rattle.soap_document.specs.declared.profile.name.Expanded.{Expanded}
-use Rattle.soap_values.specs.Children.{name_in, is_same}
+use Rattle.soap_writer.specs.Values.Children.{name_in, is_same}
 use Rattle.rm_policy.specs.declared.assertion.Assurance.{Assurance}
 use Rattle.rm_policy.specs.declared.assertion.Assurance.TheVariants as assurances
 use Rattle.rm_policy.specs.declared.word.Word.{Word}

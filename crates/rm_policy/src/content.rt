@@ -1,8 +1,8 @@
 //! What stands in the elements of an assertion.
 ghost use Rattle.std.specs.Prelude.{◌≡◌, ◌∷◌, [], option_map};
 ghost use Rattle.soap_document.specs.Profile.View.{element_view, parts_view};
-ghost use Rattle.soap_values.specs.Outcome.{optional, single};
-ghost use Rattle.soap_values.specs.Steps.{listed};
+ghost use Rattle.soap_writer.specs.Values.Outcome.{optional, single};
+ghost use Rattle.soap_writer.specs.Values.Steps.{listed};
 ghost use Rattle.rm_policy.specs.Content.{children_as, first_of, holds_only as holds_only_in};
 
 use crate::word::{Word, is_called, is_one_of, is_ours};

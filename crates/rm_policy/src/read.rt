@@ -22,7 +22,7 @@ use crate::error::PolicyError;
 use crate::word::{ASSERTION, OLDER_POLICY, POLICY, Word, assurance_named};
 use rm_base::Blob;
 use soap_document::profile::{Element, Item, read_element};
-use soap_values::{find_value, is_named, is_true_mark, trim};
+use soap_writer::values::{find_value, is_named, is_true_mark, trim};
 use std::alloc::Global;
 
 // What an assertion says of deliveries.

@@ -6,7 +6,7 @@ ghost use Rattle.rm_policy.specs.Words.{is_ours as is_one_of_ours, is_one_of as 
 
 use crate::assertion::Assurance;
 use soap_document::profile::Name;
-use soap_values::is_named;
+use soap_writer::values::is_named;
 
 /// The namespace of WS-RM Policy 1.2.
 pub const ASSERTION: &[u8] = b"http://docs.oasis-open.org/ws-rx/wsrmp/200702";

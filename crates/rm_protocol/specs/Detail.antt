@@ -3,7 +3,7 @@ use Rattle.std.specs.Prelude.{ℕ, ◌&&◌, if◌then◌else◌, List, [], ◌�
 use Rattle.std.specs.Str.{bytes_eq}
 use Rattle.soap_document.specs.Profile.Tree.{Element, element}
 use Rattle.soap_writer.specs.Frame.{messaging_space}
-use Rattle.soap_values.specs.Values.{trimmed_text}
+use Rattle.soap_writer.specs.Values.Values.{trimmed_text}
 use Rattle.record_batch.specs.Fact.{Fact}
 use Rattle.record_batch.specs.Sequences.Words.{Text}
 use Rattle.record_batch.specs.Sequences.Find.{find_outgoing}

@@ -12,7 +12,7 @@ use Rattle.soap_document.specs.declared.profile.name.Expanded.{Expanded}
 use Rattle.soap_document.specs.declared.profile.tree.Attr.{Attr}
 use Rattle.soap_writer.specs.Frame.{addressing_space}
 use Rattle.soap_writer.specs.Nodes.Node.{Node, Nodes, nothing, words, more, declared, note_attrs, node_tree, nodes_tree}
-use Rattle.soap_values.specs.Children.{name_in}
+use Rattle.soap_writer.specs.Values.Children.{name_in}
 use Rattle.wsa_headers.specs.Texts.{addressing_nodes}
 use Rattle.wsa_headers.specs.Writable.{addressing_blocks, IsAddressingBlock}
 use Rattle.rm_message.specs.Elements.Texts.{ack_node, ask_node, pending_node}

@@ -11,7 +11,7 @@ use Rattle.soap_document.specs.declared.profile.name.Expanded.{Expanded}
 use Rattle.soap_envelope.specs.Frame.Framed.{sorted_scope}
 use Rattle.soap_envelope.specs.Soap.{is_soap11}
 use Rattle.soap_writer.specs.Nodes.Node.{node_tree}
-use Rattle.soap_values.specs.Children.{name_in, has_name}
+use Rattle.soap_writer.specs.Values.Children.{name_in, has_name}
 use Rattle.wsa_headers.specs.Addressing.{first_of}
 use Rattle.wsa_headers.specs.declared.addressing.Addressing.{Addressing}
 use Rattle.rm_message.specs.Elements.Lifecycle.{lifecycle_of}

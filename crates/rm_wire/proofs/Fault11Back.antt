@@ -19,10 +19,10 @@ use Rattle.wsa_headers.specs.Texts.{params_nodes}
 use Rattle.rm_message.specs.Elements.Outcome.{rm}
 use Rattle.rm_message.specs.Elements.Texts.{r}
 use Rattle.soap_writer.specs.Nodes.Node.{Node, Nodes, nothing, words, more, full, bare, node_tree, nodes_tree}
-use Rattle.soap_values.specs.Children.{name_in, has_name, children_named}
-use Rattle.soap_values.specs.Outcome.{single, optional}
-use Rattle.soap_values.specs.QNames.{within, qname_in}
-use Rattle.soap_values.specs.Values.{trimmed, trimmed_text}
+use Rattle.soap_writer.specs.Values.Children.{name_in, has_name, children_named}
+use Rattle.soap_writer.specs.Values.Outcome.{single, optional}
+use Rattle.soap_writer.specs.Values.QNames.{within, qname_in}
+use Rattle.soap_writer.specs.Values.Values.{trimmed, trimmed_text}
 use Rattle.rm_message.specs.declared.message.FaultBody.{FaultBody}
 use Rattle.rm_message.specs.declared.message.FaultCode.{FaultCode}
 use Rattle.rm_message.specs.declared.message.FaultCode.TheVariants.{VersionMismatch, MustUnderstand}

@@ -12,9 +12,9 @@ use Rattle.soap_document.specs.declared.profile.name.Expanded.{Expanded}
 use Rattle.soap_document.specs.declared.profile.tree.Attr.{Attr}
 use Rattle.soap_envelope.specs.Frame.Framed.{sorted_scope}
 use Rattle.soap_writer.specs.Nodes.Node.{Nodes, nothing, more, leaf, full, node_tree, nodes_tree}
-use Rattle.soap_values.specs.Children.{name_in, has_name, text_among}
-use Rattle.soap_values.specs.QNames.{within, qname_in}
-use Rattle.soap_values.specs.Values.{trimmed, trimmed_text}
+use Rattle.soap_writer.specs.Values.Children.{name_in, has_name, text_among}
+use Rattle.soap_writer.specs.Values.QNames.{within, qname_in}
+use Rattle.soap_writer.specs.Values.Values.{trimmed, trimmed_text}
 use Rattle.soap_writer.specs.Plain.{is_plain_name, name_from}
 use Rattle.wsa_headers.specs.Texts.{params_nodes}
 use Rattle.rm_message.specs.declared.message.FaultBody.{FaultBody}

@@ -20,8 +20,8 @@ use Rattle.soap_writer.specs.Writable.{IsNameWritable, IsAttrWritable, IsTagWrit
 use Rattle.soap_writer.specs.Writable.{ArePartsWritable}
 use Rattle.soap_writer.specs.Nodes.Good.{IsGood, AreGood}
 use Rattle.soap_writer.specs.Nodes.Node.{Nodes, each_node, node_tree, nodes_tree}
-use Rattle.soap_values.specs.TextLaws.{literal_is_text}
-use Rattle.soap_values.specs.Values.{trimmed}
+use Rattle.soap_writer.specs.Values.TextLaws.{literal_is_text}
+use Rattle.soap_writer.specs.Values.Values.{trimmed}
 use Rattle.wsa_headers.specs.TextLaws.{text_writable}
 use Rattle.wsa_headers.specs.Writable.{IsParamWritable}
 use Rattle.rm_sides.specs.declared.ranges.range.Range.{Range}

@@ -14,9 +14,9 @@ use Rattle.soap_writer.specs.Writable.{IsNameWritable}
 use Rattle.soap_envelope.specs.Frame.Framed.{sorted_scope}
 use Rattle.soap_envelope.specs.Soap.{is_soap11}
 use Rattle.soap_writer.specs.Nodes.Node.{Node, node_tree}
-use Rattle.soap_values.specs.Children.{name_in, value_among}
-use Rattle.soap_values.specs.Outcome.{each}
-use Rattle.soap_values.specs.QNames.{qname_in}
+use Rattle.soap_writer.specs.Values.Children.{name_in, value_among}
+use Rattle.soap_writer.specs.Values.Outcome.{each}
+use Rattle.soap_writer.specs.Values.QNames.{qname_in}
 use Rattle.wsa_headers.specs.Addressing.{first_of}
 use Rattle.wsa_headers.specs.Writable.{IsAddressingBlock, IsForeign}
 use Rattle.rm_message.specs.Elements.Outcome.{rm, mc}

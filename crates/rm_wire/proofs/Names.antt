@@ -18,8 +18,8 @@ use Rattle.soap_document.specs.Profile.Namespaces.{split, xml_space, bound}
 use Rattle.soap_document.specs.declared.profile.name.Expanded.{Expanded}
 use Rattle.soap_envelope.specs.Frame.Framed.{sorted_scope}
 use Rattle.soap_writer.specs.Nodes.Node.{note_bindings}
-use Rattle.soap_values.specs.QNames.{qname_in}
-use Rattle.soap_values.specs.Values.{trimmed_start, trimmed_end, trimmed}
+use Rattle.soap_writer.specs.Values.QNames.{qname_in}
+use Rattle.soap_writer.specs.Values.Values.{trimmed_start, trimmed_end, trimmed}
 use Rattle.soap_writer.specs.Frame.{messaging_space}
 use Rattle.soap_writer.specs.Plain.{name_from}
 use Rattle.soap_writer.specs.Writable.{IsNameWritable}

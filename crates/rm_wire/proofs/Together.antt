@@ -15,7 +15,7 @@ use Rattle.soap_writer.specs.Frame.{addressing_space}
 use Rattle.soap_writer.specs.Plain.{chars_from}
 use Rattle.soap_envelope.specs.Frame.Framed.{framed_envelope, MayBeSoap}
 use Rattle.soap_writer.specs.Nodes.Node.{Nodes, more, leaf, node_tree, nodes_tree}
-use Rattle.soap_values.specs.Outcome.{◌>>=◌}
+use Rattle.soap_writer.specs.Values.Outcome.{◌>>=◌}
 use Rattle.wsa_headers.specs.Addressing.{uri_header, is_missing, properties_in, read_or_bad, read_unless}
 use Rattle.wsa_headers.specs.Addressing.{repeated}
 use Rattle.wsa_headers.specs.Addressing.{addressing_in, or_anonymous, Replies, params_of, relates_in}

@@ -1,7 +1,7 @@
-//! Tests of `soap_values`. What a test does stands in a helper that answers a plain value, since a test with many steps
-//! is slow to prove.
+//! Tests of `soap_writer::values`. What a test does stands in a helper that answers a plain value, since a test with
+//! many steps is slow to prove.
 use soap_document::profile::{Element, EnvelopeError, read_element};
-use soap_values::{
+use soap_writer::values::{
     Flaw, find_all, find_optional, find_single, find_value, is_named, is_true_mark, read_ident,
     read_number, read_text, read_trimmed, read_uri, trim,
 };

@@ -5,3 +5,4 @@ pub mod Apart
 pub mod Back
 pub mod NodesLemmas
 pub mod StrippedLemmas
+pub mod ValuesLemmas

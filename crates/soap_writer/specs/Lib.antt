@@ -6,3 +6,4 @@ pub mod Steps
 pub mod Writable
 pub mod Nodes
 pub mod Stripped
+pub mod Values

@@ -3,6 +3,7 @@
 //! `text` append bytes, text and values.
 //! - `nodes`: elements within the frame of an envelope, by the prefixes that it binds: what writers of headers append.
 //! - `stripped`: laws alone: an element of a document, without its declarations, may be written.
+//! - `values`: what an element has, as values: children by name, text, attributes, numbers, marks, addresses and names.
 #![tactic(auto)]
 
 pub mod element;
@@ -15,3 +16,4 @@ pub use text::{push_bytes, push_quoted, push_text, push_value};
 
 pub mod nodes;
 pub mod stripped;
+pub mod values;

@@ -13,7 +13,7 @@ use Rattle.soap_document.specs.declared.profile.tree.Attr.{Attr}
 use Rattle.soap_writer.specs.ReadBack.{with_mark, written_tree}
 use Rattle.soap_writer.specs.Writable.{IsWritable}
 use Rattle.soap_writer.specs.Nodes.Node.{more, leaf, nodes_tree}
-use Rattle.soap_values.specs.Children.{children_named}
+use Rattle.soap_writer.specs.Values.Children.{children_named}
 use Rattle.wsa_headers.specs.Endpoint.{wsa, address_in, mark_name, is_no_mark, unmarked, param, params_length}
 use Rattle.wsa_headers.specs.Endpoint.{params_in, may_keep, epr_in}
 use Rattle.wsa_headers.specs.TextLaws.{uri_back}

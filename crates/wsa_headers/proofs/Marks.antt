@@ -9,7 +9,7 @@ use Rattle.soap_document.specs.declared.profile.name.Expanded.{Expanded}
 use Rattle.soap_document.specs.declared.profile.tree.Attr.{Attr}
 use Rattle.soap_document.specs.Profile.View.{items_view}
 use Rattle.soap_document.specs.declared.profile.tree.Item.{Item as CodeItem}
-use Rattle.soap_values.specs.Children.{is_same}
+use Rattle.soap_writer.specs.Values.Children.{is_same}
 use Rattle.wsa_headers.specs.Endpoint.{unmarked, is_no_mark, mark_name}
 use Rattle.wsa_headers.specs.Steps.{unmarked_items}
 

@@ -15,7 +15,7 @@ use Rattle.soap_document.specs.declared.profile.tree.Attr.{Attr}
 use Rattle.soap_document.specs.declared.profile.tree.Item.{Item as CodeItem}
 use Rattle.soap_writer.specs.ElementText.{quoted, written_name, declaration, attribute_prefix, attribute_text}
 use Rattle.soap_writer.specs.ElementText.{attributes_text, element_text, parts_text}
-use Rattle.soap_values.specs.Outcome.{◌>>=◌}
+use Rattle.soap_writer.specs.Values.Outcome.{◌>>=◌}
 use Rattle.wsa_headers.specs.Endpoint.{params_length}
 use Rattle.wsa_headers.specs.Room.{left_of, text_room, value_room, name_length, declaration_room, attribute_room}
 use Rattle.wsa_headers.specs.Room.{attributes_room, tags_room, element_room, parts_room, elements_room}

@@ -4,9 +4,9 @@ use Rattle.std.specs.Prelude.{None, Result, Ok, Err, codes, map, is_none}
 use Rattle.std.specs.List.{filter, list_any}
 use Rattle.std.specs.Str.{bytes_eq}
 use Rattle.soap_document.specs.Profile.Tree.{Element, name_of, attrs_of}
-use Rattle.soap_values.specs.Children.{name_in, has_name, value_among}
-use Rattle.soap_values.specs.Outcome.{◌>>=◌, optional, each, if_present}
-use Rattle.soap_values.specs.Values.{is_true}
+use Rattle.soap_writer.specs.Values.Children.{name_in, has_name, value_among}
+use Rattle.soap_writer.specs.Values.Outcome.{◌>>=◌, optional, each, if_present}
+use Rattle.soap_writer.specs.Values.Values.{is_true}
 use Rattle.wsa_headers.specs.Endpoint.{wsa, uri_of, epr_of, mark_name, param}
 use Rattle.wsa_headers.specs.declared.addressing.Addressing.{Addressing}
 use Rattle.wsa_headers.specs.declared.endpoint.Epr.{Epr}

@@ -9,9 +9,9 @@ use Rattle.soap_document.specs.declared.profile.name.Expanded.{Expanded}
 use Rattle.soap_document.specs.declared.profile.tree.Attr.{Attr}
 use Rattle.soap_writer.specs.ElementText.{element_text}
 use Rattle.soap_writer.specs.Frame.{addressing_space}
-use Rattle.soap_values.specs.Children.{name_in, is_same, children_named}
-use Rattle.soap_values.specs.Outcome.{◌>>=◌, single}
-use Rattle.soap_values.specs.Values.{trimmed_text, text_within}
+use Rattle.soap_writer.specs.Values.Children.{name_in, is_same, children_named}
+use Rattle.soap_writer.specs.Values.Outcome.{◌>>=◌, single}
+use Rattle.soap_writer.specs.Values.Values.{trimmed_text, text_within}
 use Rattle.wsa_headers.specs.declared.endpoint.Epr.{Epr}
 
 -- a name of WS-Addressing

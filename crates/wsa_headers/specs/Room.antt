@@ -9,7 +9,7 @@ use Rattle.soap_document.specs.Profile.Namespaces.{xml_space}
 use Rattle.soap_document.specs.Profile.Tree.{Element, element, Parts, none, text, child}
 use Rattle.soap_document.specs.declared.profile.name.Expanded.{Expanded}
 use Rattle.soap_document.specs.declared.profile.tree.Attr.{Attr}
-use Rattle.soap_values.specs.Outcome.{◌>>=◌}
+use Rattle.soap_writer.specs.Values.Outcome.{◌>>=◌}
 
 -- what is left of a room behind so many bytes, where they fit
 abbrev pub left_of : ℕ → ℕ → Option ℕ

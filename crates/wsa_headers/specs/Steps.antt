@@ -2,7 +2,7 @@
 use Rattle.std.specs.Prelude.{List, Bool, false, not}
 use Rattle.std.specs.List.{filter}
 use Rattle.soap_document.specs.Profile.Items.{Item, a_declaration, an_attribute, a_text, a_child}
-use Rattle.soap_values.specs.Children.{is_same}
+use Rattle.soap_writer.specs.Values.Children.{is_same}
 use Rattle.wsa_headers.specs.Endpoint.{mark_name}
 
 -- whether an item is the mark of a reference parameter

@@ -10,8 +10,8 @@ use Rattle.xml_chars.specs.Classes.{is_char}
 use Rattle.rm_base.specs.Text.{IsText}
 use Rattle.soap_document.specs.Profile.Tree.{Element, none, text, parts_of}
 use Rattle.soap_writer.specs.Writable.{IsTextWritable}
-use Rattle.soap_values.specs.Children.{text_among}
-use Rattle.soap_values.specs.TextLaws.{text_back}
+use Rattle.soap_writer.specs.Values.Children.{text_among}
+use Rattle.soap_writer.specs.Values.TextLaws.{text_back}
 use Rattle.wsa_headers.specs.Endpoint.{uri_of}
 
 each_char : (xs : List ℕ) → list_all is_char xs ≡ true → AllByRecursion (λ c. IsTrue (is_char c)) xs

@@ -2,8 +2,8 @@
 ghost use Rattle.std.specs.Prelude.{◌≡◌, ◌++◌, map, IfOk, Some};
 ghost use Rattle.soap_document.specs.Profile.Tree.{name_of, children_of};
 ghost use Rattle.soap_document.specs.Profile.View.{element_view, item_view, items_view, parts_view};
-ghost use Rattle.soap_values.specs.Outcome.{Gives};
-ghost use Rattle.soap_values.specs.Steps.{lent_trees};
+ghost use Rattle.soap_writer.specs.Values.Outcome.{Gives};
+ghost use Rattle.soap_writer.specs.Values.Steps.{lent_trees};
 ghost use Rattle.wsa_headers.specs.Addressing.{Answers, blamed};
 ghost use Rattle.wsa_headers.specs.Endpoint.{uri_of, address_in, unmarked, param, params_among, params_in};
 ghost use Rattle.wsa_headers.specs.Endpoint.{kept_params, epr_in, epr_of};
@@ -13,7 +13,7 @@ use crate::error::AddressingError;
 use crate::room::may_keep;
 use rm_base::{Blob, Memory, Uri};
 use soap_document::profile::{Element, Elements, Item, strip};
-use soap_values::{Flaw, find_all, find_single, is_named, read_trimmed, read_uri};
+use soap_writer::values::{Flaw, find_all, find_single, is_named, read_trimmed, read_uri};
 use std::alloc::Global;
 
 /// The namespace of WS-Addressing 1.0: Core, section 1.2.
@@ -121,7 +121,7 @@ fn is_mark(item: &Item) -> bool
 }
 
 // The children of one element ReferenceParameters, behind those of others.
-#[tactic(auto, using(soap_values::specs::ChildLaws::children_of_more))]
+#[tactic(auto, using(soap_writer::specs::Values::ChildLaws::children_of_more))]
 fn push_params(alloc: Global, items: &[Item], params: &mut Elements) -> Result<(), Flaw>
     ensures { Gives (λ _. params.new) result (Some (params.old ++ map param (children_of (parts_view items.now)))) }
 {

@@ -2,8 +2,8 @@
 ghost use Rattle.std.specs.Prelude.{◌≡◌, ◌||◌, map, option_map, codes, IfOk, Some};
 ghost use Rattle.std.specs.List.{filter};
 ghost use Rattle.soap_document.specs.Profile.View.{element_view};
-ghost use Rattle.soap_values.specs.Outcome.{Gives, optional, each};
-ghost use Rattle.soap_values.specs.Steps.{lent_trees};
+ghost use Rattle.soap_writer.specs.Values.Outcome.{Gives, optional, each};
+ghost use Rattle.soap_writer.specs.Values.Steps.{lent_trees};
 ghost use Rattle.wsa_headers.specs.Endpoint.{uri_of};
 ghost use Rattle.wsa_headers.specs.Addressing.{
   Answers,
@@ -32,7 +32,7 @@ use crate::endpoint::{ADDRESSING, Epr, read_address_of, read_reference, unmark};
 use crate::error::AddressingError;
 use rm_base::{Blob, Items, Memory, Uri};
 use soap_document::profile::{Element, Elements};
-use soap_values::{Flaw, find_value, is_named, is_true_mark, read_uri};
+use soap_writer::values::{Flaw, find_value, is_named, is_true_mark, read_uri};
 use std::alloc::Global;
 
 const REPLY: &[u8] = b"http://www.w3.org/2005/08/addressing/reply";

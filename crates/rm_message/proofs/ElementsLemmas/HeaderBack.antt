@@ -11,11 +11,11 @@ use Rattle.soap_document.specs.Profile.Tree.{Element, element, Parts, none, text
 use Rattle.soap_writer.specs.Nodes.Node.{Tag as NodeTag, expanded_name, Node, Nodes, nothing, more, each_node}
 use Rattle.soap_writer.specs.Nodes.Node.{node_tree}
 use Rattle.soap_writer.specs.Nodes.Node.{nodes_tree}
-use Rattle.soap_values.specs.Children.{name_in, text_among, value_among, children_named, has_name}
-use Rattle.soap_values.specs.Outcome.{optional, each}
-use Rattle.soap_values.specs.EachLaws.{each_again}
-use Rattle.soap_values.specs.NumberLaws.{number_back, decimal_number}
-use Rattle.soap_values.specs.TextLaws.{text_back}
+use Rattle.soap_writer.specs.Values.Children.{name_in, text_among, value_among, children_named, has_name}
+use Rattle.soap_writer.specs.Values.Outcome.{optional, each}
+use Rattle.soap_writer.specs.Values.EachLaws.{each_again}
+use Rattle.soap_writer.specs.Values.NumberLaws.{number_back, decimal_number}
+use Rattle.soap_writer.specs.Values.TextLaws.{text_back}
 use Rattle.rm_sides.specs.declared.ranges.range.Range.{Range}
 use Rattle.rm_message.specs.Elements.Headers.{ident_of, identifier, number_of, message_number, numbered_in, bound_in}
 use Rattle.rm_message.specs.Elements.Headers.{range_of, ack_of, ack_in, header_of}

@@ -11,10 +11,10 @@ use Rattle.xml_chars.specs.Classes.{is_space}
 use Rattle.soap_document.specs.Profile.Tree.{Element, element, Parts, none, text, parts_of}
 use Rattle.soap_document.specs.declared.profile.name.Expanded.{Expanded}
 use Rattle.soap_writer.specs.Nodes.Node.{Node, Nodes, nothing, more, leaf, node_tree, nodes_tree}
-use Rattle.soap_values.specs.Children.{is_same, has_name, children_named}
-use Rattle.soap_values.specs.Outcome.{◌>>=◌}
-use Rattle.soap_values.specs.TrimLaws.{trimmed_end-other}
-use Rattle.soap_values.specs.Values.{trimmed, trimmed_end, trimmed_text}
+use Rattle.soap_writer.specs.Values.Children.{is_same, has_name, children_named}
+use Rattle.soap_writer.specs.Values.Outcome.{◌>>=◌}
+use Rattle.soap_writer.specs.Values.TrimLaws.{trimmed_end-other}
+use Rattle.soap_writer.specs.Values.Values.{trimmed, trimmed_end, trimmed_text}
 use Rattle.wsa_headers.specs.Endpoint.{epr_in}
 use Rattle.wsa_headers.specs.TextLaws.{uri_back}
 use Rattle.wsa_headers.specs.Texts.{epr_nodes}

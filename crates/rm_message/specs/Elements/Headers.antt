@@ -7,9 +7,9 @@ use Rattle.soap_lex.specs.Tests.{is_nil}
 use Rattle.soap_document.specs.Profile.Tree.{Element, Parts, name_of, attrs_of, parts_of}
 use Rattle.soap_document.specs.declared.profile.name.Expanded.{Expanded}
 use Rattle.soap_document.specs.declared.profile.tree.Attr.{Attr}
-use Rattle.soap_values.specs.Children.{name_in, is_same, children_named, value_among}
-use Rattle.soap_values.specs.Outcome.{◌>>=◌, optional, single, each}
-use Rattle.soap_values.specs.Values.{trimmed, trimmed_text, whole_number, is_true, text_within}
+use Rattle.soap_writer.specs.Values.Children.{name_in, is_same, children_named, value_among}
+use Rattle.soap_writer.specs.Values.Outcome.{◌>>=◌, optional, single, each}
+use Rattle.soap_writer.specs.Values.Values.{trimmed, trimmed_text, whole_number, is_true, text_within}
 use Rattle.rm_sides.specs.declared.ranges.range.Range.{Range}
 use Rattle.rm_message.specs.Elements.Outcome.{rm, mc, named}
 use Rattle.rm_message.specs.declared.elements.error.ElementError.{ElementError}

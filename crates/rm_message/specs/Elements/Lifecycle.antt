@@ -4,9 +4,9 @@ use Rattle.std.specs.List.{list_any}
 use Rattle.std.specs.Str.{bytes_eq}
 use Rattle.soap_document.specs.Profile.Tree.{Element, Parts, name_of, parts_of, children_of}
 use Rattle.soap_document.specs.declared.profile.name.Expanded.{Expanded}
-use Rattle.soap_values.specs.Children.{is_same, has_name, children_named}
-use Rattle.soap_values.specs.Outcome.{◌>>=◌, optional, single, if_present}
-use Rattle.soap_values.specs.Values.{trimmed_text}
+use Rattle.soap_writer.specs.Values.Children.{is_same, has_name, children_named}
+use Rattle.soap_writer.specs.Values.Outcome.{◌>>=◌, optional, single, if_present}
+use Rattle.soap_writer.specs.Values.Values.{trimmed_text}
 use Rattle.rm_base.specs.declared.message.Behaviour.{Behaviour}
 use Rattle.rm_base.specs.declared.message.Behaviour.TheVariants.{NoDiscard, EntireSequence, FollowingFirstGap}
 use Rattle.wsa_headers.specs.Endpoint.{uri_of, epr_of}

@@ -2,7 +2,7 @@
 use Rattle.std.specs.Prelude.{◌≡◌, ℕ, List, Option, Some, None, Result, Ok, Err}
 use Rattle.soap_document.specs.declared.profile.name.Expanded.{Expanded}
 use Rattle.soap_writer.specs.Frame.{messaging_space, connection_space}
-use Rattle.soap_values.specs.Children.{name_in}
+use Rattle.soap_writer.specs.Values.Children.{name_in}
 use Rattle.rm_message.specs.declared.elements.error.ElementError.{ElementError}
 use Rattle.rm_message.specs.declared.elements.error.ElementError.TheVariants.{Memory, Malformed, Rollover}
 

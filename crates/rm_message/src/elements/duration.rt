@@ -21,7 +21,7 @@ ghost use Rattle.rm_message.specs.Elements.Duration.{
 };
 
 use rm_base::Lapse;
-use soap_values::number::number_of;
+use soap_writer::values::number::number_of;
 
 /// The most months of a duration.
 pub const MOST_MONTHS: u64 = 100000;

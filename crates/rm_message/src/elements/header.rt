@@ -2,8 +2,8 @@
 ghost use Rattle.std.specs.Prelude.{◌≡◌, ◌-◌, ◌^◌, min, option_map};
 ghost use Rattle.soap_lex.specs.Tests.{is_nil};
 ghost use Rattle.soap_document.specs.Profile.View.{element_view, attrs_view, parts_view};
-ghost use Rattle.soap_values.specs.Outcome.{Gives, each};
-ghost use Rattle.soap_values.specs.Steps.{lent_trees};
+ghost use Rattle.soap_writer.specs.Values.Outcome.{Gives, each};
+ghost use Rattle.soap_writer.specs.Values.Steps.{lent_trees};
 ghost use Rattle.rm_message.specs.Elements.Steps.{capped};
 ghost use Rattle.rm_message.specs.Elements.Headers.{
   ident_of,
@@ -23,7 +23,7 @@ ghost use Rattle.rm_message.specs.Elements.Headers.{
 use rm_base::{Ident, Items, MAX_NUMBER, Numbers};
 use rm_sides::ranges::Range;
 use soap_document::profile::{Element, Item};
-use soap_values::{
+use soap_writer::values::{
     Flaw, find_all, find_optional, find_single, find_value, is_true_mark, read_ident, read_number,
     read_text, read_trimmed, trim,
 };

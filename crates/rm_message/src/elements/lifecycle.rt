@@ -1,7 +1,7 @@
 //! Body elements: WS-ReliableMessaging 1.2, sections 3.4 to 3.6, and WS-MakeConnection 1.1, section 3.
 ghost use Rattle.std.specs.Prelude.{◌≡◌, ◌∷◌, [], option_map};
 ghost use Rattle.soap_document.specs.Profile.View.{element_view, parts_view};
-ghost use Rattle.soap_values.specs.Outcome.{Gives, if_present};
+ghost use Rattle.soap_writer.specs.Values.Outcome.{Gives, if_present};
 ghost use Rattle.wsa_headers.specs.Endpoint.{uri_of};
 ghost use Rattle.rm_message.specs.Elements.Headers.{number_of};
 ghost use Rattle.rm_message.specs.Elements.Lifecycle.{
@@ -24,7 +24,7 @@ use crate::elements::duration::read_duration;
 use crate::elements::header::{MESSAGING, number_within, read_identifier};
 use rm_base::{Behaviour, Ident, Lapse, Uri};
 use soap_document::profile::{Element, Item};
-use soap_values::{Flaw, find_optional, find_single, is_named, read_trimmed};
+use soap_writer::values::{Flaw, find_optional, find_single, is_named, read_trimmed};
 use std::alloc::Global;
 use wsa_headers::{Epr, read_address_of, read_reference};
 

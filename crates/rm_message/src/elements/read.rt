@@ -1,7 +1,7 @@
 //! Header blocks and body elements from trees.
 ghost use Rattle.std.specs.Prelude.{◌≡◌, Option, option_map, Some};
 ghost use Rattle.soap_document.specs.Profile.View.{element_view, attrs_view, parts_view};
-ghost use Rattle.soap_values.specs.Outcome.{Gives};
+ghost use Rattle.soap_writer.specs.Values.Outcome.{Gives};
 ghost use Rattle.rm_message.specs.Elements.Outcome.{Answers, named};
 ghost use Rattle.rm_message.specs.Elements.Headers.{header_name as header_name_of, header_as, header_of, sequence_in};
 ghost use Rattle.rm_message.specs.Elements.Headers.{identifier, ack_in, pending_in};
@@ -17,7 +17,7 @@ use crate::elements::lifecycle::{
 };
 use rm_base::{Blob, MAX_NUMBER};
 use soap_document::profile::{Element, Item, Name};
-use soap_values::{Flaw, is_named};
+use soap_writer::values::{Flaw, is_named};
 use std::alloc::Global;
 
 /// The header blocks of WS-ReliableMessaging and WS-MakeConnection, by name.

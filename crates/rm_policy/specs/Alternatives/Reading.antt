@@ -8,8 +8,8 @@ use Rattle.soap_document.specs.Profile.Document.{Document, IsReadable}
 use Rattle.soap_document.specs.Profile.Payload.{is_white_outside}
 use Rattle.soap_document.specs.Profile.Tree as tree
 use Rattle.soap_document.specs.declared.profile.name.Expanded.{Expanded}
-use Rattle.soap_values.specs.Children.{name_in, is_same}
-use Rattle.soap_values.specs.Outcome.{◌>>=◌}
+use Rattle.soap_writer.specs.Values.Children.{name_in, is_same}
+use Rattle.soap_writer.specs.Values.Outcome.{◌>>=◌}
 use Rattle.rm_policy.specs.Assertion.{assertion_in, optional_in, security_in}
 use Rattle.rm_policy.specs.Reading.{IsNoDocument}
 use Rattle.rm_policy.specs.Words.{rmp, policy_space, older_policy_space}

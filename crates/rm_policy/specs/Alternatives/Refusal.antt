@@ -1,8 +1,8 @@
 -- Why bytes or an element are no policy.
 use Rattle.soap_document.specs.declared.profile.error.EnvelopeError.{EnvelopeError}
 use Rattle.soap_document.specs.declared.profile.error.EnvelopeError.TheVariants as documents
-use Rattle.soap_values.specs.declared.flaw.Flaw.{Flaw}
-use Rattle.soap_values.specs.declared.flaw.Flaw.TheVariants as flaws
+use Rattle.soap_writer.specs.declared.values.flaw.Flaw.{Flaw}
+use Rattle.soap_writer.specs.declared.values.flaw.Flaw.TheVariants as flaws
 use Rattle.rm_policy.specs.declared.alternatives.error.WspError.{WspError}
 use Rattle.rm_policy.specs.declared.alternatives.error.WspError.TheVariants.{Memory, Envelope, Malformed}
 

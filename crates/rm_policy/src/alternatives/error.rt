@@ -5,7 +5,7 @@ ghost use Rattle.rm_policy.specs.declared.alternatives.error.WspError.TheVariant
 
 use rm_base::{Blob, Memory};
 use soap_document::profile::EnvelopeError;
-use soap_values::Flaw;
+use soap_writer::values::Flaw;
 use thiserror::Error;
 
 /// Why a policy is not read, or has no normal form within the limits. `name` is the local name of the first element

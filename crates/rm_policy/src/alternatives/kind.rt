@@ -4,7 +4,7 @@ ghost use Rattle.rm_policy.specs.Alternatives.Reading.{is_word, kind_of as kind_
 
 use crate::{ASSERTION, OLDER_POLICY, POLICY};
 use soap_document::profile::Name;
-use soap_values::is_named;
+use soap_writer::values::is_named;
 
 /// What an element is in a policy: an operator, where Policy counts as All, an assertion of reliable messaging, another
 /// one, or nothing that may stand there.

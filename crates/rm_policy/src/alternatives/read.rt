@@ -3,8 +3,8 @@ ghost use Rattle.std.specs.Prelude.{◌≡◌, ◌∷◌, [], ℕ, IfOk, Some, o
 ghost use Rattle.soap_document.specs.Profile.Payload.{is_white_outside};
 ghost use Rattle.soap_document.specs.Profile.Tree.{children_of as children_among};
 ghost use Rattle.soap_document.specs.Profile.View.{element_view, parts_view};
-ghost use Rattle.soap_values.specs.Outcome.{Gives};
-ghost use Rattle.soap_values.specs.Steps.{lent_trees};
+ghost use Rattle.soap_writer.specs.Values.Outcome.{Gives};
+ghost use Rattle.soap_writer.specs.Values.Steps.{lent_trees};
 ghost use Rattle.rm_policy.specs.Alternatives.Reading.{
   Answers,
   Reads,
@@ -24,7 +24,7 @@ use crate::alternatives::tree::{count_elements, find_asked, find_asked_among, re
 use rm_base::{Blob, Memory};
 use soap_document::is_white;
 use soap_document::profile::{Element, Item, read_element};
-use soap_values::{Flaw, is_named};
+use soap_writer::values::{Flaw, is_named};
 use std::alloc::Global;
 
 /// How many elements a document may have.

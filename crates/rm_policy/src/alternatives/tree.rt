@@ -1,7 +1,7 @@
 //! Policies from trees: WS-Policy 1.5, section 4.3.
 ghost use Rattle.std.specs.Prelude.{◌≡◌, ◌∷◌, [], OnOk, option_map};
 ghost use Rattle.soap_document.specs.Profile.View.{element_view, parts_view};
-ghost use Rattle.soap_values.specs.Outcome.{Gives};
+ghost use Rattle.soap_writer.specs.Values.Outcome.{Gives};
 ghost use Rattle.rm_policy.specs.Alternatives.Reading.{
   asked_in,
   asked_among,
@@ -23,7 +23,7 @@ use crate::{find_security, read_form, read_optional};
 use rm_base::Memory;
 use soap_document::is_white;
 use soap_document::profile::{Element, Item};
-use soap_values::Flaw;
+use soap_writer::values::Flaw;
 use std::alloc::Global;
 
 /// The policy that an element is, whether or not an assertion in it asks for security.

@@ -6,8 +6,8 @@ use Rattle.std.specs.List.{AllByRecursion, filter}
 use Rattle.rm_base.specs.Text.{IsText}
 use Rattle.soap_document.specs.Profile.Tree.{Element}
 use Rattle.soap_writer.specs.Stripped.Resolved.{IsResolved}
-use Rattle.soap_values.specs.Outcome.{◌>>=◌, optional, each, if_present}
-use Rattle.soap_values.specs.TextLaws.{literal_is_text}
+use Rattle.soap_writer.specs.Values.Outcome.{◌>>=◌, optional, each, if_present}
+use Rattle.soap_writer.specs.Values.TextLaws.{literal_is_text}
 use Rattle.wsa_headers.specs.Addressing.{is_header, is_marked, blocks_named, repeated, uri_header, epr_header}
 use Rattle.wsa_headers.specs.Addressing.{is_reply}
 use Rattle.wsa_headers.specs.Addressing.{first_of, relates_in, or_anonymous, params_of, Replies, replies_in}

@@ -13,8 +13,8 @@ use Rattle.rm_base.specs.declared.message.Binding.{Binding}
 use Rattle.soap_document.specs.Profile.Tree.{Element, Parts, name_of, parts_of, children_of}
 use Rattle.soap_document.specs.declared.profile.name.Expanded.{Expanded}
 use Rattle.soap_writer.specs.Stripped.Resolved.{AreInForce, IsResolved}
-use Rattle.soap_values.specs.Children.{name_in, has_name}
-use Rattle.soap_values.specs.Outcome.{◌>>=◌, single}
+use Rattle.soap_writer.specs.Values.Children.{name_in, has_name}
+use Rattle.soap_writer.specs.Values.Outcome.{◌>>=◌, single}
 use Rattle.wsa_headers.specs.Addressing.{first_of}
 use Rattle.rm_message.specs.Elements.Lifecycle.{body_name, body_as, lifecycle_of, create_in, response_in, finish_in}
 use Rattle.rm_message.specs.Elements.Lifecycle.{make_in}

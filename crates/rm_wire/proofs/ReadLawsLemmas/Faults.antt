@@ -11,10 +11,10 @@ use Rattle.soap_writer.specs.Writable.{IsNameWritable}
 use Rattle.soap_writer.specs.Plain.{chars_from}
 use Rattle.soap_writer.specs.Stripped.Resolved.{AreInForce, IsResolved}
 use Rattle.soap_writer.specs.Stripped.ResolvedLaws.{children_resolved}
-use Rattle.soap_values.specs.Children.{name_in, has_name, children_named}
-use Rattle.soap_values.specs.Outcome.{◌>>=◌}
-use Rattle.soap_values.specs.QNames.{within, qname_in}
-use Rattle.soap_values.specs.Values.{trimmed_text}
+use Rattle.soap_writer.specs.Values.Children.{name_in, has_name, children_named}
+use Rattle.soap_writer.specs.Values.Outcome.{◌>>=◌}
+use Rattle.soap_writer.specs.Values.QNames.{within, qname_in}
+use Rattle.soap_writer.specs.Values.Values.{trimmed_text}
 use Rattle.wsa_headers.specs.Addressing.{first_of}
 use Rattle.rm_message.specs.declared.message.FaultBody.{FaultBody}
 use Rattle.rm_message.specs.declared.message.FaultCode.{FaultCode}

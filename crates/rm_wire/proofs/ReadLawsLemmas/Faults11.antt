@@ -10,10 +10,10 @@ use Rattle.soap_document.specs.declared.profile.name.Expanded.{Expanded}
 use Rattle.soap_writer.specs.Writable.{IsNameWritable}
 use Rattle.soap_writer.specs.Stripped.Resolved.{AreInForce, IsResolved}
 use Rattle.soap_writer.specs.Stripped.ResolvedLaws.{children_resolved}
-use Rattle.soap_values.specs.Children.{has_name, children_named}
-use Rattle.soap_values.specs.Outcome.{◌>>=◌, single, optional, if_present}
-use Rattle.soap_values.specs.QNames.{within, qname_in}
-use Rattle.soap_values.specs.Values.{trimmed_text}
+use Rattle.soap_writer.specs.Values.Children.{has_name, children_named}
+use Rattle.soap_writer.specs.Values.Outcome.{◌>>=◌, single, optional, if_present}
+use Rattle.soap_writer.specs.Values.QNames.{within, qname_in}
+use Rattle.soap_writer.specs.Values.Values.{trimmed_text}
 use Rattle.rm_message.specs.Elements.Outcome.{rm}
 use Rattle.message_writer.specs.Rules.{IsSubcodeWritable, IsDetailWritable, IsFaultWritable}
 use Rattle.message_reader.specs.Blocks.{blocks, is_block, sequence_fault_name}

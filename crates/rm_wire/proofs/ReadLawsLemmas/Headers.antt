@@ -7,9 +7,9 @@ use Rattle.std.proofs.lemmas.Bool.{ltb-false, eqb-false}
 use Rattle.rm_base.specs.Text.{IsText}
 use Rattle.soap_document.specs.Profile.Tree.{Element, Parts, name_of, attrs_of, parts_of}
 use Rattle.soap_document.specs.declared.profile.tree.Attr.{Attr}
-use Rattle.soap_values.specs.Children.{name_in, children_named, value_among}
-use Rattle.soap_values.specs.Outcome.{◌>>=◌, optional, single, each}
-use Rattle.soap_values.specs.Values.{trimmed_text, whole_number}
+use Rattle.soap_writer.specs.Values.Children.{name_in, children_named, value_among}
+use Rattle.soap_writer.specs.Values.Outcome.{◌>>=◌, optional, single, each}
+use Rattle.soap_writer.specs.Values.Values.{trimmed_text, whole_number}
 use Rattle.rm_sides.specs.declared.ranges.range.Range.{Range}
 use Rattle.rm_message.specs.Elements.Headers.{ident_of, identifier, counted, number_in, number_of, unless_zero}
 use Rattle.rm_message.specs.Elements.Headers.{message_number}

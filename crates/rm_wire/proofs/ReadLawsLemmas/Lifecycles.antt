@@ -9,9 +9,9 @@ use Rattle.rm_base.specs.declared.message.Behaviour.{Behaviour}
 use Rattle.soap_document.specs.Profile.Tree.{Element, Parts, name_of, parts_of, children_of}
 use Rattle.soap_writer.specs.Stripped.Resolved.{IsResolved}
 use Rattle.soap_writer.specs.Stripped.ResolvedLaws.{children_resolved}
-use Rattle.soap_values.specs.Children.{has_name, children_named}
-use Rattle.soap_values.specs.Outcome.{◌>>=◌, optional, single, if_present}
-use Rattle.soap_values.specs.Values.{trimmed_text}
+use Rattle.soap_writer.specs.Values.Children.{has_name, children_named}
+use Rattle.soap_writer.specs.Values.Outcome.{◌>>=◌, optional, single, if_present}
+use Rattle.soap_writer.specs.Values.Values.{trimmed_text}
 use Rattle.wsa_headers.specs.Endpoint.{uri_of, epr_of}
 use Rattle.wsa_headers.specs.Writable.{IsEprWritable}
 use Rattle.wsa_headers.specs.declared.endpoint.Epr.{Epr}

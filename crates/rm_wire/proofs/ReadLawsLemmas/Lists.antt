@@ -3,7 +3,7 @@ use Rattle.std.proofs.Common.{◌≡◌, Bool, List, [], ◌∷◌, ◌++◌, Op
 use Rattle.std.specs.Prelude.{IfSome}
 use Rattle.std.specs.List.{AllByRecursion, filter, flat_map}
 use Rattle.std.proofs.lemmas.Bool.{cond_both}
-use Rattle.soap_values.specs.Outcome.{◌>>=◌, optional, single, each, if_present}
+use Rattle.soap_writer.specs.Values.Outcome.{◌>>=◌, optional, single, each, if_present}
 use Rattle.wsa_headers.specs.Addressing.{first_of}
 
 -- ---- picked

@@ -12,9 +12,9 @@ use Rattle.soap_document.specs.declared.profile.name.Expanded.{Expanded}
 use Rattle.soap_writer.specs.Writable.{IsNameWritable}
 use Rattle.soap_envelope.specs.Envelope.{Envelope}
 use Rattle.soap_writer.specs.Stripped.Resolved.{AreInForce, IsResolved}
-use Rattle.soap_values.specs.Children.{name_in, value_among}
-use Rattle.soap_values.specs.Outcome.{◌>>=◌, optional, if_present}
-use Rattle.soap_values.specs.QNames.{within, qname_in}
+use Rattle.soap_writer.specs.Values.Children.{name_in, value_among}
+use Rattle.soap_writer.specs.Values.Outcome.{◌>>=◌, optional, if_present}
+use Rattle.soap_writer.specs.Values.QNames.{within, qname_in}
 use Rattle.wsa_headers.specs.Addressing.{addressing_in, uri_header, is_header, blocks_named}
 use Rattle.wsa_headers.specs.Endpoint.{wsa, uri_of}
 use Rattle.wsa_headers.specs.Writable.{IsAddressingWritable}

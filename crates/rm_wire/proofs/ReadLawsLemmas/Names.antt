@@ -18,7 +18,7 @@ use Rattle.soap_document.specs.declared.profile.name.Expanded.{Expanded}
 use Rattle.soap_writer.specs.Writable.{IsNameWritable}
 use Rattle.soap_writer.specs.Stripped.Resolved.{IsBinding, AreInForce}
 use Rattle.soap_writer.specs.Stripped.ResolvedLaws.{more_in_force}
-use Rattle.soap_values.specs.QNames.{within, is_name_value, qname_in}
+use Rattle.soap_writer.specs.Values.QNames.{within, is_name_value, qname_in}
 use Rattle.rm_wire.proofs.ReadLawsLemmas.Lists.{all_flat_map}
 
 -- the law of names that this stands on

@@ -13,8 +13,8 @@ use Rattle.soap_document.specs.declared.profile.tree.Attr.{Attr}
 use Rattle.soap_writer.specs.Writable.{IsAttrWritable, IsWritable}
 use Rattle.soap_writer.specs.Stripped.Resolved.{IsResolved}
 use Rattle.soap_writer.specs.Stripped.ResolvedLaws.{children_resolved}
-use Rattle.soap_values.specs.Children.{has_name, children_named}
-use Rattle.soap_values.specs.Outcome.{◌>>=◌, single}
+use Rattle.soap_writer.specs.Values.Children.{has_name, children_named}
+use Rattle.soap_writer.specs.Values.Outcome.{◌>>=◌, single}
 use Rattle.wsa_headers.specs.Endpoint.{wsa, uri_of, address_in, mark_name, is_no_mark, unmarked, param}
 use Rattle.wsa_headers.specs.Endpoint.{params_in, params_length, may_keep, kept_params, epr_in, epr_of}
 use Rattle.wsa_headers.specs.Writable.{IsParamWritable, IsEprWritable}

@@ -9,8 +9,8 @@ use Rattle.soap_document.specs.Profile.Tree.{Element, Parts, none, text, child, 
 use Rattle.soap_document.specs.declared.profile.name.Expanded.{Expanded}
 use Rattle.soap_envelope.specs.Envelope.{Envelope, IsEnvelope, StandsFor}
 use Rattle.soap_writer.specs.Stripped.Resolved.{IsResolved}
-use Rattle.soap_values.specs.Children.{has_name}
-use Rattle.soap_values.specs.Outcome.{◌>>=◌, single, optional}
+use Rattle.soap_writer.specs.Values.Children.{has_name}
+use Rattle.soap_writer.specs.Values.Outcome.{◌>>=◌, single, optional}
 use Rattle.wsa_headers.specs.declared.addressing.Addressing.{Addressing}
 use Rattle.rm_message.specs.Elements.Lifecycle.{lifecycle_of}
 use Rattle.rm_message.specs.Elements.Headers.{header_of}

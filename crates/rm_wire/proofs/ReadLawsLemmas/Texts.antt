@@ -3,8 +3,8 @@ use Rattle.std.proofs.Common.{◌≡◌, ℕ, Bool, true, false, if◌then◌els
 use Rattle.rm_base.specs.Text.{IsText, is_text}
 use Rattle.rm_base.specs.TextLemmas.{is_text-IsText}
 use Rattle.soap_document.specs.Profile.Tree.{Element}
-use Rattle.soap_values.specs.Outcome.{◌>>=◌}
-use Rattle.soap_values.specs.Values.{trimmed_text, text_within}
+use Rattle.soap_writer.specs.Values.Outcome.{◌>>=◌}
+use Rattle.soap_writer.specs.Values.Values.{trimmed_text, text_within}
 use Rattle.wsa_headers.specs.Endpoint.{uri_of}
 
 text_at : (limit : ℕ) (bytes text : List ℕ) (t : Bool) → is_text limit bytes ≡ t

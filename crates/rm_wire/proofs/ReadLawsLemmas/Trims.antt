@@ -13,8 +13,8 @@ use Rattle.soap_writer.specs.Writable.{ArePartsWritable}
 use Rattle.soap_writer.specs.Stripped.CharLaws.{AreChars, AreHigh, chars_nil, chars_append, one_char, ascii_char}
 use Rattle.soap_writer.specs.Stripped.CharLaws.{high_bytes}
 use Rattle.soap_writer.specs.Stripped.Resolved.{IsResolved}
-use Rattle.soap_values.specs.Children.{text_among}
-use Rattle.soap_values.specs.Values.{trimmed_start, trimmed_end, trimmed, trimmed_text}
+use Rattle.soap_writer.specs.Values.Children.{text_among}
+use Rattle.soap_writer.specs.Values.Values.{trimmed_start, trimmed_end, trimmed, trimmed_text}
 
 space_low : (b : ℕ) → is_space b ≡ true → b < 128
 space_low b e = grind (arith, nat_tests)

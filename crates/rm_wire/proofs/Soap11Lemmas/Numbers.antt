@@ -14,7 +14,7 @@ use Rattle.std.proofs.lemmas.List.Sorted.{Contains-permutation, IsPermutation-sy
 use Rattle.rm_base.specs.declared.message.Binding.{Binding}
 use Rattle.soap_lex.specs.Facts.{same, equal}
 use Rattle.soap_document.specs.Profile.Namespaces.{bound}
-use Rattle.soap_values.specs.Values.{trimmed, whole_number}
+use Rattle.soap_writer.specs.Values.Values.{trimmed, whole_number}
 use Rattle.rm_wire.specs.Soap11.Lift.{numbered_prefix, AreNumbers, IsFirstFree}
 
 -- ---- one binding more

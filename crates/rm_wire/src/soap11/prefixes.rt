@@ -8,7 +8,7 @@ ghost use Rattle.rm_wire.specs.Soap11.Lift.{numbered_prefix, AreNumbers, IsFirst
 
 use itoa::Buffer;
 use rm_base::{Binding, Bindings, Memory};
-use soap_values::{number_is_read_back, read_number, trim};
+use soap_writer::values::{number_is_read_back, read_number, trim};
 use std::alloc::Global;
 
 // What stands behind a w.

@@ -1,7 +1,7 @@
 use Rattle.std.proofs.Common.{◌≡◌, ◌++◌, drop, map}
 use Rattle.soap_document.specs.Profile.View.{element_view}
-use Rattle.soap_values.specs.Children.{name_in}
-use Rattle.soap_values.specs.Steps.{listed}
+use Rattle.soap_writer.specs.Values.Children.{name_in}
+use Rattle.soap_writer.specs.Values.Steps.{listed}
 use Rattle.message_reader.specs.Blocks.{blocks}
 use Rattle.message_reader.proofs.blocks.find_block.Given as goal
 

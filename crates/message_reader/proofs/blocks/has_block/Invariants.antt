@@ -1,6 +1,6 @@
 use Rattle.std.proofs.Common.{◌≡◌, drop, map}
 use Rattle.soap_document.specs.Profile.View.{element_view}
-use Rattle.soap_values.specs.Children.{name_in}
+use Rattle.soap_writer.specs.Values.Children.{name_in}
 use Rattle.message_reader.specs.Blocks.{has_block}
 use Rattle.message_reader.proofs.blocks.has_block.Given as goal
 

@@ -1,7 +1,7 @@
 use Rattle.std.proofs.Common.{◌≡◌, ◌++◌, drop}
 use Rattle.soap_document.specs.Profile.Tree.{children_of}
 use Rattle.soap_document.specs.Profile.View.{parts_view}
-use Rattle.soap_values.specs.Steps.{listed}
+use Rattle.soap_writer.specs.Values.Steps.{listed}
 use Rattle.message_reader.proofs.body.only_child.Given as goal
 
 -- the one so far, and those of what is left

@@ -1,6 +1,6 @@
 use Rattle.std.proofs.Common.{◌≡◌, drop}
 use Rattle.soap_document.specs.Profile.View.{parts_view}
-use Rattle.soap_values.specs.Children.{name_in, children_named}
+use Rattle.soap_writer.specs.Values.Children.{name_in, children_named}
 use Rattle.message_reader.proofs.fault.find_first.Given as goal
 
 -- it is none of those so far

@@ -1,9 +1,9 @@
 use Rattle.std.proofs.Common.{◌≡◌}
 use Rattle.std.proofs.lemmas.Result.{err_from_is_err_and}
 use Rattle.soap_document.specs.Profile.View.{element_view}
-use Rattle.soap_values.specs.EachLaws.{each_goes_on, each_stops}
-use Rattle.soap_values.specs.Outcome.{each}
-use Rattle.soap_values.specs.Steps.{lent_trees}
+use Rattle.soap_writer.specs.Values.EachLaws.{each_goes_on, each_stops}
+use Rattle.soap_writer.specs.Values.Outcome.{each}
+use Rattle.soap_writer.specs.Values.Steps.{lent_trees}
 use Rattle.message_reader.specs.Headers.{ack_of}
 use Rattle.message_reader.proofs.headers.read_each_ack.Goals as goal
 

@@ -1,6 +1,6 @@
 use Rattle.std.proofs.Common.{◌≡◌, drop}
-use Rattle.soap_values.specs.Outcome.{each}
-use Rattle.soap_values.specs.Steps.{onto, lent_trees}
+use Rattle.soap_writer.specs.Values.Outcome.{each}
+use Rattle.soap_writer.specs.Values.Steps.{onto, lent_trees}
 use Rattle.message_reader.specs.Headers.{ask_of}
 use Rattle.message_reader.proofs.headers.read_each_ask.Given as goal
 

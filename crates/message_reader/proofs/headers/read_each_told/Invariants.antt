@@ -1,6 +1,6 @@
 use Rattle.std.proofs.Common.{◌≡◌, ◌++◌, drop}
 use Rattle.std.specs.List.{flat_map}
-use Rattle.soap_values.specs.Steps.{lent_trees}
+use Rattle.soap_writer.specs.Values.Steps.{lent_trees}
 use Rattle.message_reader.specs.Headers.{listed, told_name}
 use Rattle.message_reader.proofs.headers.read_each_told.Given as goal
 

@@ -1,6 +1,6 @@
 use Rattle.std.proofs.Common.{◌≡◌, ◌++◌, drop}
 use Rattle.soap_document.specs.Profile.View.{parts_view}
-use Rattle.soap_values.specs.Steps.{listed}
+use Rattle.soap_writer.specs.Values.Steps.{listed}
 use Rattle.rm_policy.specs.Content.{children_as}
 use Rattle.rm_policy.proofs.content.find_optional.Given as goal
 

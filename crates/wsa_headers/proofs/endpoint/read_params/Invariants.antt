@@ -1,5 +1,5 @@
 use Rattle.std.proofs.Common.{◌≡◌, ◌++◌, drop}
-use Rattle.soap_values.specs.Steps.{lent_trees}
+use Rattle.soap_writer.specs.Values.Steps.{lent_trees}
 use Rattle.wsa_headers.specs.Endpoint.{params_among}
 use Rattle.wsa_headers.proofs.endpoint.read_params.Given as goal
 

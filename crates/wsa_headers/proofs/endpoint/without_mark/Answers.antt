@@ -1,5 +1,5 @@
 use Rattle.std.proofs.Common.{◌∙◌, sym, ap}
-use Rattle.soap_values.specs.ChildLaws.{element_is}
+use Rattle.soap_writer.specs.Values.ChildLaws.{element_is}
 use Rattle.wsa_headers.specs.Endpoint.{unmarked}
 use Rattle.wsa_headers.proofs.Marks.{unmarked_view}
 use Rattle.wsa_headers.proofs.endpoint.without_mark.Goals as goal

@@ -1,6 +1,6 @@
 use Rattle.std.proofs.Common.{◌≡◌, ◌++◌, drop, map}
 use Rattle.soap_document.specs.Profile.View.{element_view}
-use Rattle.soap_values.specs.Steps.{listed}
+use Rattle.soap_writer.specs.Values.Steps.{listed}
 use Rattle.wsa_headers.specs.Addressing.{blocks_named}
 use Rattle.wsa_headers.proofs.read.at_most_one.Given as goal
 

@@ -1,6 +1,6 @@
 use Rattle.std.proofs.Common.{◌≡◌, ◌++◌, drop, map}
 use Rattle.soap_document.specs.Profile.View.{element_view}
-use Rattle.soap_values.specs.Steps.{lent_trees}
+use Rattle.soap_writer.specs.Values.Steps.{lent_trees}
 use Rattle.wsa_headers.specs.Addressing.{blocks_named}
 use Rattle.wsa_headers.proofs.read.find_headers.Given as goal
 

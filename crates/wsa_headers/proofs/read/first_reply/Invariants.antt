@@ -1,6 +1,6 @@
 use Rattle.std.proofs.Common.{◌≡◌, drop}
 use Rattle.std.specs.List.{filter}
-use Rattle.soap_values.specs.Steps.{lent_trees}
+use Rattle.soap_writer.specs.Values.Steps.{lent_trees}
 use Rattle.wsa_headers.specs.Addressing.{is_reply}
 use Rattle.wsa_headers.proofs.read.first_reply.Given as goal
 

@@ -1,8 +1,8 @@
 use Rattle.std.proofs.lemmas.Result.{err_from_is_err_and}
 use Rattle.soap_document.specs.Profile.View.{element_view}
-use Rattle.soap_values.specs.EachLaws.{each_goes_on, each_stops}
-use Rattle.soap_values.specs.Outcome.{each}
-use Rattle.soap_values.specs.Steps.{lent_trees}
+use Rattle.soap_writer.specs.Values.EachLaws.{each_goes_on, each_stops}
+use Rattle.soap_writer.specs.Values.Outcome.{each}
+use Rattle.soap_writer.specs.Values.Steps.{lent_trees}
 use Rattle.wsa_headers.specs.Endpoint.{uri_of}
 use Rattle.wsa_headers.proofs.read.read_addresses.Goals as goal
 

@@ -1,6 +1,6 @@
 use Rattle.std.proofs.Common.{◌≡◌, drop}
-use Rattle.soap_values.specs.Outcome.{each}
-use Rattle.soap_values.specs.Steps.{onto, lent_trees}
+use Rattle.soap_writer.specs.Values.Outcome.{each}
+use Rattle.soap_writer.specs.Values.Steps.{onto, lent_trees}
 use Rattle.wsa_headers.specs.Endpoint.{uri_of}
 use Rattle.wsa_headers.proofs.read.read_addresses.Given as goal
 

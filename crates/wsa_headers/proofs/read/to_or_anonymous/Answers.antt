@@ -1,5 +1,5 @@
 use Rattle.std.proofs.Common.{refl}
-use Rattle.soap_values.specs.TextLaws.{literal_is_text, text_is}
+use Rattle.soap_writer.specs.Values.TextLaws.{literal_is_text, text_is}
 use Rattle.wsa_headers.specs.Addressing.{anonymous}
 use Rattle.wsa_headers.proofs.read.to_or_anonymous.Goals as goal
 

@@ -1,8 +1,8 @@
 use Rattle.std.proofs.lemmas.Result.{err_from_is_err_and}
 use Rattle.soap_document.specs.Profile.View.{element_view}
-use Rattle.soap_values.specs.EachLaws.{each_goes_on, each_stops}
-use Rattle.soap_values.specs.Outcome.{each}
-use Rattle.soap_values.specs.Steps.{lent_trees}
+use Rattle.soap_writer.specs.Values.EachLaws.{each_goes_on, each_stops}
+use Rattle.soap_writer.specs.Values.Outcome.{each}
+use Rattle.soap_writer.specs.Values.Steps.{lent_trees}
 use Rattle.rm_message.specs.Elements.Headers.{range_of}
 use Rattle.rm_message.proofs.elements.header.read_ranges.Goals as goal
 

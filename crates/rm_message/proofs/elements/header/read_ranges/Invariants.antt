@@ -1,6 +1,6 @@
 use Rattle.std.proofs.Common.{◌≡◌, drop}
-use Rattle.soap_values.specs.Outcome.{each}
-use Rattle.soap_values.specs.Steps.{onto, lent_trees}
+use Rattle.soap_writer.specs.Values.Outcome.{each}
+use Rattle.soap_writer.specs.Values.Steps.{onto, lent_trees}
 use Rattle.rm_message.specs.Elements.Headers.{range_of}
 use Rattle.rm_message.proofs.elements.header.read_ranges.Given as goal
 

@@ -1,7 +1,7 @@
 use Rattle.std.proofs.Common.{◌≡◌, ◌++◌, drop}
 use Rattle.soap_document.specs.Profile.Tree.{children_of}
 use Rattle.soap_document.specs.Profile.View.{parts_view}
-use Rattle.soap_values.specs.Steps.{lent_trees}
+use Rattle.soap_writer.specs.Values.Steps.{lent_trees}
 use Rattle.rm_policy.proofs.alternatives.read.children_of.Given as goal
 
 -- those so far, and those of what is left

@@ -1,7 +1,0 @@
-use Rattle.std.proofs.Common.{◌≡◌, drop}
-use Rattle.soap_values.specs.Values.{trimmed_start}
-use Rattle.soap_values.proofs.content.trim_start.Given as goal
-
--- what is left has the same start
-abbrev pub invariant-loop-i : goal.invariant-loop-i
-invariant-loop-i l = trimmed_start (drop l.i l.bytes) ≡ trimmed_start l.bytes

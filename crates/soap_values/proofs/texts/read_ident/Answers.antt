@@ -1,8 +1,0 @@
-use Rattle.soap_values.specs.TextLaws.{text_is, no_text}
-use Rattle.soap_values.proofs.texts.read_ident.Goals as goal
-
-pub returns-in-Ok : goal.returns-in-Ok
-returns-in-Ok c = rw c.in-Ok.ensures.ok (text_is 512 c.args.bytes.now c.in-Ok.ensures.is_text)
-
-pub returns-in-Err : goal.returns-in-Err
-returns-in-Err c = rw c.flaw_of.ensures (no_text 512 c.args.bytes.now c.in-Err.error c.in-Err.ensures.err)

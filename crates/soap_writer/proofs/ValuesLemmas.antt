@@ -1,0 +1,3 @@
+-- The lemmas of `values`.
+pub mod BoundLemmas
+pub mod NumberLemmas
