@@ -43,9 +43,9 @@ fn named<T: Drop>(call: &'static str, outcome: io::Result<T>) -> Result<T, Fault
     }
 }
 
-// By what peers of one address are told: IPv4's whole, and of IPv6 the half that names a network. No network of IPv6
-// begins as IPv4's do here.
-fn origin(ip: IpAddr) -> u64 {
+/// By what peers of one address are told: IPv4's whole, and of IPv6 the half that names a network. No network of IPv6
+/// begins as IPv4's do here.
+pub fn origin(ip: IpAddr) -> u64 {
     match ip.to_canonical() {
         IpAddr::V4(address) => {
             0xFFFF_0000_0000 | u64::from(u32::from_be_bytes(address.octets()))
@@ -158,9 +158,9 @@ impl Ears {
     }
 
     /// A connection that a peer dialled, and the address that it came from, if one waits.
-    pub fn take_peer(&self) -> Option<(TcpStream, u64)> {
+    pub fn take_peer(&self) -> Option<(TcpStream, IpAddr)> {
         match self.peers.accept() {
-            Ok((stream, from)) => Some((stream, origin(from.ip()))),
+            Ok((stream, from)) => Some((stream, from.ip())),
             Err(_) => None,
         }
     }

@@ -1,12 +1,13 @@
 //! All connections of a service, on one thread: the trusted edge of `Traffic`. It tells nothing of what comes and goes.
 ghost use Rattle.std.specs.Prelude.{None, false};
 
-use crate::ears::Ears;
+use crate::ears::{Ears, origin};
 use crate::held::Held;
-use crate::limits::{BREATH, FIRST_TOKEN, MOST_BYTES, MOST_TAKEN, STRIDE};
+use crate::limits::{AGAIN, BREATH, FIRST_TOKEN, MOST_BYTES, MOST_PAUSED, MOST_TAKEN, STRIDE};
 use crate::line::{About, Goes, Kind, Line, Stage};
 use crate::listen::Listen;
 use crate::outbox::{Dial, Outbox};
+use crate::peers::Peers;
 use crate::pipe::Pipe;
 use crate::ready::{Ready, Thing, Whole};
 use crate::table::Table;
@@ -27,6 +28,7 @@ pub struct Edge<R: Copy> {
     net: R,
     alloc: Global,
     media: Media,
+    peers: Peers,
     ears: Ears,
     table: Table,
     outbox: Outbox,
@@ -38,6 +40,9 @@ pub struct Edge<R: Copy> {
     swept: u64,
     quiet: u64,
     was_quiet: bool,
+    // When the desk was asked again for applications that wait, and whether something was done since.
+    again: u64,
+    has_news: bool,
     serial: u64,
     // The host that is dialled for first.
     first: usize,
@@ -50,6 +55,7 @@ impl<R: Copy> Drop for Edge<R> {
             net: _,
             alloc: _,
             media: _,
+            peers: _,
             ears: _,
             table: _,
             outbox: _,
@@ -60,6 +66,8 @@ impl<R: Copy> Drop for Edge<R> {
             swept: _,
             quiet: _,
             was_quiet: _,
+            again: _,
+            has_news: _,
             serial: _,
             first: _,
             tally: _,
@@ -69,13 +77,15 @@ impl<R: Copy> Drop for Edge<R> {
 
 impl<R: Net + Files + Clock + Copy> Edge<R> {
     /// Listens to peers, and to applications on a Unix socket where one is named. The socket of another process at that
-    /// name is removed, so this process must hold what it stands beside.
+    /// name is removed, so this process must hold what it stands beside. Who isn't among the peers is let go, and isn't
+    /// posted to.
     pub fn open(
         net: R,
         alloc: Global,
         listen: Listen,
         socket: Option<&str>,
         media: Media,
+        peers: Peers,
     ) -> Result<Self, Fault> {
         let ears = Ears::open(&net, alloc, listen, socket)?;
         let start = match Instant::now(&net) {
@@ -91,6 +101,7 @@ impl<R: Net + Files + Clock + Copy> Edge<R> {
             net,
             alloc,
             media,
+            peers,
             ears,
             table: Table::new(alloc),
             outbox: Outbox::new(alloc),
@@ -101,6 +112,8 @@ impl<R: Net + Files + Clock + Copy> Edge<R> {
             swept: 0,
             quiet: 0,
             was_quiet: false,
+            again: 0,
+            has_news: false,
             serial: 0,
             first: 0,
             tally: Tally::new(),
@@ -117,15 +130,38 @@ impl<R: Net + Files + Clock + Copy> Edge<R> {
         self.tally
     }
 
-    /// Writes the answers that are still to be written, for so many milliseconds at most.
+    /// Writes the answers that are still to be written, for so many milliseconds at most. Applications that wait are
+    /// told that the service stops.
     pub fn finish(&mut self, wait: u64) {
         self.tell_time();
+        self.stop_all();
         let end = self.now.saturating_add(wait);
         for _turn in 0..u64::MAX {
             if !self.table.owes() || self.now >= end {
                 return;
             }
             self.pump(end.saturating_sub(self.now).min(STRIDE));
+        }
+    }
+
+    fn stop_all(&mut self) {
+        for place in 0..self.table.len() {
+            if let Some(line) = self.table.take(place) {
+                self.stop_one(place, line);
+            }
+        }
+    }
+
+    fn stop_one(&mut self, place: usize, line: Line) {
+        let mut line = line;
+        if !line.is_asking() {
+            self.table.put(place, line);
+            return;
+        }
+        if line.stop(&self.about()) {
+            self.drive(place, line);
+        } else {
+            self.end(line);
         }
     }
 
@@ -177,7 +213,13 @@ impl<R: Net + Files + Clock + Copy> Edge<R> {
     fn take_peers(&mut self) {
         for _turn in 0..MOST_TAKEN {
             match self.ears.take_peer() {
-                Some((stream, from)) => self.admit_peer(stream, from),
+                Some((stream, from)) => {
+                    if self.peers.may_come(from) {
+                        self.admit_peer(stream, origin(from));
+                    } else {
+                        self.tally.barred = self.tally.barred.saturating_add(1);
+                    }
+                }
                 None => return,
             }
         }
@@ -368,8 +410,9 @@ impl<R: Net + Files + Clock + Copy> Edge<R> {
                     self.tally.missed = self.tally.missed.saturating_add(1);
                 }
             }
-            _ => {
-                if line.stage() == Stage::Reading {
+            kind => {
+                let is_idle = kind == Kind::App && line.bytes() == 0;
+                if line.stage() == Stage::Reading && !is_idle {
                     self.tally.dropped = self.tally.dropped.saturating_add(1);
                 }
             }
@@ -401,9 +444,13 @@ impl<R: Net + Files + Clock + Copy> Edge<R> {
     fn thing(&mut self) -> Option<Event<Held, Held>> {
         for _turn in 0..u64::MAX {
             let event = match self.ready.pop()? {
-                Thing::Heard(body) => Some(Event::Heard(body)),
+                Thing::Heard(body) => {
+                    self.has_news = true;
+                    Some(Event::Heard(body))
+                }
                 Thing::Ask(whole) => match self.held(whole) {
                     Some(held) => {
+                        self.has_news = true;
                         self.tally.asked = self.tally.asked.saturating_add(1);
                         Some(Event::Asked(held))
                     }
@@ -427,7 +474,11 @@ impl<R: Net + Files + Clock + Copy> Edge<R> {
     fn held(&mut self, whole: Whole) -> Option<Held> {
         let Whole { place, serial, len } = whole;
         let mut line = self.table.take_one(place, serial)?;
-        match line.take_message(self.alloc, len) {
+        let request = match line.kind() {
+            Kind::App => line.take_told(self.alloc),
+            _ => line.take_message(self.alloc, len),
+        };
+        match request {
             Some(request) => {
                 self.table.put(place, line);
                 Some(Held::new(self.alloc, request, place, serial))
@@ -453,6 +504,45 @@ impl<R: Net + Files + Clock + Copy> Edge<R> {
         }
     }
 
+    // What the desk wrote of a request of an application goes to it, or it waits.
+    fn tell(&mut self, held: &Held) {
+        let (place, serial) = held.line();
+        let may_pause = self.table.paused() < MOST_PAUSED;
+        let Some(line) = self.table.take_one(place, serial) else {
+            return;
+        };
+        let mut line = line;
+        if line.hear(&self.about(), held.written(), self.tally, may_pause) {
+            self.drive(place, line);
+        } else {
+            self.end(line);
+        }
+    }
+
+    // Asks the desk again for the applications that wait, where something was done or it is time for that.
+    fn ask_again(&mut self) {
+        let wait = if self.has_news { BREATH } else { AGAIN };
+        if self.now.saturating_sub(self.again) < wait {
+            return;
+        }
+        self.again = self.now;
+        self.has_news = false;
+        for place in 0..self.table.len() {
+            if let Some(serial) = self.table.resume(place) {
+                let whole = Whole {
+                    place,
+                    serial,
+                    len: 0,
+                };
+                if !self.ready.push(Thing::Call(whole))
+                    && let Some(line) = self.table.take(place)
+                {
+                    self.end(line);
+                }
+            }
+        }
+    }
+
     fn be_quiet(&mut self) -> Event<Held, Held> {
         self.quiet = self.now;
         self.was_quiet = true;
@@ -471,7 +561,7 @@ impl<R: Net + Files + Clock + Copy> Edge<R> {
             if self.table.is_empty() && self.outbox.is_empty() {
                 self.pump(wait);
             } else {
-                self.pump(wait.min(STRIDE));
+                self.pump(wait.min(if self.has_news { BREATH } else { AGAIN }));
             }
         } else if self.now.saturating_sub(self.asked) >= BREATH {
             self.pump(0);
@@ -483,6 +573,7 @@ impl<R: Net + Files + Clock + Copy> Edge<R> {
         let end = self.now.saturating_add(wait);
         let is_due = self.now.saturating_sub(self.quiet) >= wait;
         for _turn in 0..u64::MAX {
+            self.ask_again();
             self.breathe(if is_due { self.now } else { end });
             let is_over = is_due || self.now >= end;
             if self.has_turn(is_over)
@@ -512,6 +603,10 @@ impl<R: Net + Files + Clock + Copy> Traffic for Edge<R> {
     }
 
     fn post(&mut self, packet: Packet) {
+        if !self.peers.may_post(packet.address.as_slice()) {
+            self.tally.barred = self.tally.barred.saturating_add(1);
+            return;
+        }
         if self.about().is_full || !self.outbox.push(packet) {
             self.tally.shed = self.tally.shed.saturating_add(1);
         }
@@ -522,6 +617,6 @@ impl<R: Net + Files + Clock + Copy> Traffic for Edge<R> {
     }
 
     fn answer(&mut self, conn: Held) {
-        self.give_back(&conn);
+        self.tell(&conn);
     }
 }

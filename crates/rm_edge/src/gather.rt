@@ -10,7 +10,7 @@ use http_endpoint::parts::{ChunkSize, Trailer};
 use http_endpoint::{HttpError, Media};
 use http1::fields::{ContentLength, TransferEncoding};
 use rm_base::Memory;
-use rm_base::limits::ENVELOPE_BYTES;
+use rm_base::limits::{ENVELOPE_BYTES, PAYLOAD_BYTES};
 use std::alloc::Global;
 
 /// A peer's request, a call of the application, or a response.
@@ -162,13 +162,22 @@ impl Gather {
         }
     }
 
+    // The most bytes of a body.
+    fn most(&self) -> usize {
+        match self.sort {
+            Sort::Call => PAYLOAD_BYTES,
+            Sort::Request(_) => ENVELOPE_BYTES,
+            Sort::Response => ENVELOPE_BYTES,
+        }
+    }
+
     // A body begins behind a head of so many bytes.
     fn begin(&mut self, framing: Result<Framing, HttpError>, len: usize, have: usize) -> Step {
         self.at = self.at.saturating_add(len);
         match framing {
             Ok(Framing::Empty) => Step::Whole(self.at),
             Ok(Framing::Counted(size)) => {
-                if size > ENVELOPE_BYTES as u64 {
+                if size > self.most() as u64 {
                     self.closes = true;
                     return Step::Whole(have);
                 }
@@ -194,7 +203,7 @@ impl Gather {
     fn chunk(&mut self, alloc: Global, bytes: &[u8]) -> Result<Step, Memory> {
         match self.part::<ChunkSize>(alloc, bytes)? {
             Parsed::Found(len, size) => {
-                if size > ENVELOPE_BYTES as u64 {
+                if size > self.most() as u64 {
                     self.closes = true;
                     return Ok(Step::Whole(bytes.len()));
                 }

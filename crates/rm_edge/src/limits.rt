@@ -4,7 +4,13 @@
 pub const MOST_PEERS: usize = 896;
 
 /// The most connections of applications at once: no peer takes their places.
-pub const MOST_APPS: usize = 64;
+pub const MOST_APPS: usize = 128;
+
+/// The most applications that wait at once for an answer that isn't there yet: one more is answered at once.
+pub const MOST_PAUSED: usize = 64;
+
+/// After how many milliseconds the desk is asked again for them, where nothing else was done.
+pub const AGAIN: u64 = 200;
 
 /// The most connections to other hosts at once.
 pub const MOST_POSTS: usize = 64;

@@ -1,8 +1,11 @@
 //! One connection, from its first byte to its last.
 
+use crate::ask::Refusal;
+use crate::call::{Call, Reply};
 use crate::gather::{Gather, Sort};
 use crate::limits::{IDLE, LIFE, LINGER, MOST_DRAINED, PIECE, SILENCE, SMALL, WHOLE};
 use crate::pipe::{Made, Moved, Pipe};
+use crate::tally::Tally;
 use http_endpoint::Media;
 use rm_base::Blob;
 use std::alloc::Global;
@@ -20,13 +23,14 @@ pub enum Kind {
     Post(usize),
 }
 
-/// What it does: it is being made, it reads, its request is at the desk, it writes, or its answer is written and it
-/// takes in what still comes.
+/// What it does: it is being made, it reads, its request is at the desk, the desk had nothing for it and is asked again
+/// later, it writes, or its answer is written and it takes in what still comes.
 #[derive(Clone, Copy, Debug, PartialEq, Eq)]
 pub enum Stage {
     Connecting,
     Reading,
     Waiting,
+    Paused,
     Writing,
     Lingering,
 }
@@ -67,6 +71,9 @@ pub struct Line {
     // How many bytes of the answer went ahead of it, and how many were read behind it.
     ahead: usize,
     drained: usize,
+    // What an application asked for, and until when it waits for it.
+    call: Option<Call>,
+    until: u64,
 }
 
 impl Drop for Line {
@@ -84,6 +91,8 @@ impl Drop for Line {
             sent: _,
             ahead: _,
             drained: _,
+            call: _,
+            until: _,
         } = self;
     }
 }
@@ -129,6 +138,8 @@ impl Line {
             sent: 0,
             ahead: 0,
             drained: 0,
+            call: None,
+            until: 0,
         }
     }
 
@@ -157,7 +168,14 @@ impl Line {
 
     /// How many bytes it holds.
     pub fn bytes(&self) -> usize {
-        self.input.len().saturating_add(self.output.len())
+        let told = match &self.call {
+            Some(call) => call.bytes(),
+            None => 0,
+        };
+        self.input
+            .len()
+            .saturating_add(self.output.len())
+            .saturating_add(told)
     }
 
     /// Since when it is silent, where nothing came of its request, or its answer is written.
@@ -177,7 +195,7 @@ impl Line {
 
     /// Whether its time is up.
     pub fn is_late(&self, now: u64) -> bool {
-        if self.stage == Stage::Waiting {
+        if self.stage == Stage::Waiting || self.stage == Stage::Paused {
             return false;
         }
         let limit = match self.stage {
@@ -189,6 +207,77 @@ impl Line {
             _ => WHOLE,
         };
         now.saturating_sub(self.since) > limit || now > self.ends
+    }
+
+    /// What an application's request tells the desk.
+    pub fn take_told(&mut self, alloc: Global) -> Option<Blob> {
+        match &mut self.call {
+            Some(call) => call.take_told(alloc).ok(),
+            None => None,
+        }
+    }
+
+    /// What the desk wrote becomes the answer of an application; or the desk is asked again later, where there is time
+    /// for that.
+    pub fn hear(&mut self, about: &About, text: &[u8], tally: Tally, may_pause: bool) -> bool {
+        if may_pause
+            && about.now < self.until
+            && let Some(call) = &self.call
+            && call.is_vain(text)
+        {
+            self.stage = Stage::Paused;
+            return true;
+        }
+        match self.call.take() {
+            Some(call) => match call.answer(about.alloc, text, tally) {
+                Ok(reply) => {
+                    self.reply(about, reply);
+                    true
+                }
+                Err(_) => false,
+            },
+            None => false,
+        }
+    }
+
+    /// The desk is asked again: whether it is to be.
+    pub fn resume(&mut self) -> bool {
+        let is_paused = self.stage == Stage::Paused;
+        if is_paused {
+            self.stage = Stage::Waiting;
+        }
+        is_paused
+    }
+
+    /// Whether an application waits for its answer.
+    pub fn is_asking(&self) -> bool {
+        self.call.is_some()
+    }
+
+    /// The application that waits is told that the service stops.
+    pub fn stop(&mut self, about: &About) -> bool {
+        match self.call.take() {
+            Some(call) => match call.refuse(about.alloc, Refusal::Stopping) {
+                Ok(reply) => {
+                    self.reply(about, reply);
+                    true
+                }
+                Err(_) => false,
+            },
+            None => false,
+        }
+    }
+
+    fn reply(&mut self, about: &About, reply: Reply) {
+        let Reply { text, closes } = reply;
+        self.stage = Stage::Writing;
+        self.since = about.now;
+        self.ends = self.ends.max(about.now.saturating_add(WHOLE));
+        self.sent = 0;
+        self.output = text;
+        if closes {
+            self.gather.close();
+        }
     }
 
     /// Takes out the message that is whole, of so many bytes. What came behind it stays.
@@ -237,6 +326,7 @@ impl Line {
                 Stage::Connecting => self.connect(about),
                 Stage::Reading => self.read(about),
                 Stage::Waiting => Some(Goes::On),
+                Stage::Paused => self.pause(),
                 Stage::Writing => self.write(about),
                 Stage::Lingering => self.linger(about),
             };
@@ -294,7 +384,10 @@ impl Line {
         match self.gather.look(about.alloc, self.input.as_slice()) {
             Ok(Some(len)) => {
                 self.stage = Stage::Waiting;
-                Some(Goes::Whole(len))
+                match self.kind {
+                    Kind::App => self.call(about, len),
+                    _ => Some(Goes::Whole(len)),
+                }
             }
             Ok(None) => {
                 if self.gather.waits() && self.ahead == 0 {
@@ -305,6 +398,51 @@ impl Line {
                 None
             }
             Err(_) => Some(Goes::Over),
+        }
+    }
+
+    // A request of an application is read. One that the desk isn't told is answered at once.
+    fn call(&mut self, about: &About, len: usize) -> Option<Goes> {
+        let message = match self.take_message(about.alloc, len) {
+            Some(message) => message,
+            None => return Some(Goes::Over),
+        };
+        let Ok(call) = Call::read(about.alloc, message.as_slice()) else {
+            return Some(Goes::Over);
+        };
+        match call.refusal() {
+            Some(refusal) => match call.refuse(about.alloc, refusal) {
+                Ok(reply) => {
+                    self.reply(about, reply);
+                    None
+                }
+                Err(_) => Some(Goes::Over),
+            },
+            None => {
+                self.until = about.now.saturating_add(call.wait());
+                self.call = Some(call);
+                Some(Goes::Whole(len))
+            }
+        }
+    }
+
+    // Whether an application still waits: one that ended its side is gone.
+    fn pause(&mut self) -> Option<Goes> {
+        if self.input.len() > SMALL {
+            return Some(Goes::On);
+        }
+        let mut piece = [0; PIECE];
+        match self.pipe.read(&mut piece) {
+            Moved::Count(0) => Some(Goes::Over),
+            Moved::Count(count) => match self
+                .input
+                .extend_from_slice(piece.split_at(count.min(PIECE)).0)
+            {
+                Ok(()) => None,
+                Err(_) => Some(Goes::Over),
+            },
+            Moved::Later => Some(Goes::On),
+            Moved::Gone => Some(Goes::Over),
         }
     }
 

@@ -1,7 +1,7 @@
 //! The connections, each in a place of its own.
 
 use crate::limits::{MOST_APPS, MOST_OF_ONE, MOST_PEERS, MOST_POSTS};
-use crate::line::{Kind, Line};
+use crate::line::{Kind, Line, Stage};
 use std::alloc::Global;
 
 /// The connections, with a count of each kind, and how many bytes they hold.
@@ -157,6 +157,33 @@ impl Table {
         self.bytes = self.bytes.saturating_add(line.bytes());
         if let Some(at) = self.lines.get_mut(place) {
             *at = Some(line);
+        }
+    }
+
+    /// How many applications wait for an answer that isn't there yet.
+    pub fn paused(&self) -> usize {
+        let mut count: usize = 0;
+        for line in self.lines.iter() {
+            if let Some(line) = line
+                && line.stage() == Stage::Paused
+            {
+                count = count.saturating_add(1);
+            }
+        }
+        count
+    }
+
+    /// The number of the connection in a place, where the desk is asked again for it from now on.
+    pub fn resume(&mut self, place: usize) -> Option<u64> {
+        match self.lines.get_mut(place) {
+            Some(Some(line)) => {
+                if line.resume() {
+                    Some(line.serial())
+                } else {
+                    None
+                }
+            }
+            _ => None,
         }
     }
 
