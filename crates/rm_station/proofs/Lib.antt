@@ -1,0 +1,4 @@
+mod CallLemmas
+mod OutLemmas
+mod RunLemmas
+mod SaidLemmas

@@ -1,0 +1,4 @@
+pub mod Asks
+pub mod Runs
+pub mod Texts
+pub mod Works
