@@ -3,7 +3,6 @@ use crate::peer::{Peer, ask, asks, is_answer, repeated};
 use http_endpoint::{HttpError, read_request};
 use rm_base::{Blob, MemConn, Memory, Numbers};
 use std::alloc::Global;
-use std::test::Fail;
 
 // What a request is answered with: its body, or why there is none.
 type Answer = Result<&'static [u8], HttpError>;
@@ -91,9 +90,8 @@ const COUNTED: [Case; 9] = [
 ];
 
 #[test]
-fn counted_bodies(rt: HostRuntime) -> Result<(), Fail> {
-    assert!(rt; come_out(rt.alloc(), &COUNTED)?);
-    Ok(())
+fn counted_bodies(rt: HostRuntime) {
+    assert!(rt; come_out(rt.alloc(), &COUNTED) == Ok(true));
 }
 
 const BAD_LENGTHS: [Case; 10] = [
@@ -122,9 +120,8 @@ const BAD_LENGTHS: [Case; 10] = [
 ];
 
 #[test]
-fn bad_lengths(rt: HostRuntime) -> Result<(), Fail> {
-    assert!(rt; come_out(rt.alloc(), &BAD_LENGTHS)?);
-    Ok(())
+fn bad_lengths(rt: HostRuntime) {
+    assert!(rt; come_out(rt.alloc(), &BAD_LENGTHS) == Ok(true));
 }
 
 const IN_CHUNKS: &[u8] = b"Transfer-Encoding: Chunked\r\n";
@@ -150,9 +147,8 @@ const CHUNKED_BODIES: [Case; 9] = [
 ];
 
 #[test]
-fn chunked_bodies(rt: HostRuntime) -> Result<(), Fail> {
-    assert!(rt; come_out(rt.alloc(), &CHUNKED_BODIES)?);
-    Ok(())
+fn chunked_bodies(rt: HostRuntime) {
+    assert!(rt; come_out(rt.alloc(), &CHUNKED_BODIES) == Ok(true));
 }
 
 const CODINGS: [Case; 6] = [
@@ -173,9 +169,8 @@ const CODINGS: [Case; 6] = [
 ];
 
 #[test]
-fn codings(rt: HostRuntime) -> Result<(), Fail> {
-    assert!(rt; come_out(rt.alloc(), &CODINGS)?);
-    Ok(())
+fn codings(rt: HostRuntime) {
+    assert!(rt; come_out(rt.alloc(), &CODINGS) == Ok(true));
 }
 
 // Whether a request of this first line and these fields, with nothing behind, cut in several ways, is answered so.
@@ -210,9 +205,8 @@ const METHODS: [Case; 6] = [
 ];
 
 #[test]
-fn methods_in_order(rt: HostRuntime) -> Result<(), Fail> {
-    assert!(rt; heads_come_out(rt.alloc(), &METHODS)?);
-    Ok(())
+fn methods_in_order(rt: HostRuntime) {
+    assert!(rt; heads_come_out(rt.alloc(), &METHODS) == Ok(true));
 }
 
 const MEDIA_TYPES: [Case; 5] = [
@@ -244,9 +238,8 @@ const MEDIA_TYPES: [Case; 5] = [
 ];
 
 #[test]
-fn media_types(rt: HostRuntime) -> Result<(), Fail> {
-    assert!(rt; heads_come_out(rt.alloc(), &MEDIA_TYPES)?);
-    Ok(())
+fn media_types(rt: HostRuntime) {
+    assert!(rt; heads_come_out(rt.alloc(), &MEDIA_TYPES) == Ok(true));
 }
 
 const FIRST_LINES: [Case; 5] = [
@@ -262,9 +255,8 @@ const FIRST_LINES: [Case; 5] = [
 ];
 
 #[test]
-fn first_lines(rt: HostRuntime) -> Result<(), Fail> {
-    assert!(rt; heads_come_out(rt.alloc(), &FIRST_LINES)?);
-    Ok(())
+fn first_lines(rt: HostRuntime) {
+    assert!(rt; heads_come_out(rt.alloc(), &FIRST_LINES) == Ok(true));
 }
 
 // Whether each front of a text is answered so.
@@ -325,10 +317,9 @@ fn many_fields(alloc: Global, count: usize, wanted: Answer) -> Result<bool, Memo
 }
 
 #[test]
-fn limits_of_fields(rt: HostRuntime) -> Result<(), Fail> {
-    assert!(rt; many_fields(rt.alloc(), 63, NOTHING)?);
-    assert!(rt; many_fields(rt.alloc(), 64, BAD)?);
-    Ok(())
+fn limits_of_fields(rt: HostRuntime) {
+    assert!(rt; many_fields(rt.alloc(), 63, NOTHING) == Ok(true));
+    assert!(rt; many_fields(rt.alloc(), 64, BAD) == Ok(true));
 }
 
 // A head of so many bytes.
@@ -349,10 +340,9 @@ fn long_head_comes_out(alloc: Global, len: usize, wanted: Answer) -> Result<bool
 }
 
 #[test]
-fn limits_of_heads(rt: HostRuntime) -> Result<(), Fail> {
-    assert!(rt; long_head_comes_out(rt.alloc(), 16384, NOTHING)?);
-    assert!(rt; long_head_comes_out(rt.alloc(), 16385, BAD)?);
-    Ok(())
+fn limits_of_heads(rt: HostRuntime) {
+    assert!(rt; long_head_comes_out(rt.alloc(), 16384, NOTHING) == Ok(true));
+    assert!(rt; long_head_comes_out(rt.alloc(), 16385, BAD) == Ok(true));
 }
 
 // Whether a text and then so many pieces, a byte at a time, are answered so.
@@ -369,10 +359,11 @@ fn pieces_come_out(
 }
 
 #[test]
-fn heads_without_an_end(rt: HostRuntime) -> Result<(), Fail> {
-    assert!(rt; pieces_come_out(rt.alloc(), b"POST / HTTP/1.1\r\n", b"a:\n", 5000, CUT)?);
-    assert!(rt; pieces_come_out(rt.alloc(), b"", b"\n", 16385, BAD)?);
-    Ok(())
+fn heads_without_an_end(rt: HostRuntime) {
+    assert!(rt;
+        pieces_come_out(rt.alloc(), b"POST / HTTP/1.1\r\n", b"a:\n", 5000, CUT) == Ok(true)
+    );
+    assert!(rt; pieces_come_out(rt.alloc(), b"", b"\n", 16385, BAD) == Ok(true));
 }
 
 fn chunked(alloc: Global, chunks: &[u8]) -> Result<Blob, Memory> {
@@ -400,21 +391,25 @@ fn chunks_come_out(
 }
 
 #[test]
-fn limits_of_chunks(rt: HostRuntime) -> Result<(), Fail> {
+fn limits_of_chunks(rt: HostRuntime) {
     // "0;" and CR LF CR LF around 16384 bytes less 4
-    assert!(rt; chunks_come_out(rt.alloc(), b"0;", (b"x", 16380), b"\r\n\r\n", NOTHING)?);
-    assert!(rt; chunks_come_out(rt.alloc(), b"0;", (b"x", 16381), b"\r\n\r\n", BAD)?);
-    Ok(())
+    assert!(rt;
+        chunks_come_out(rt.alloc(), b"0;", (b"x", 16380), b"\r\n\r\n", NOTHING) == Ok(true)
+    );
+    assert!(rt; chunks_come_out(rt.alloc(), b"0;", (b"x", 16381), b"\r\n\r\n", BAD) == Ok(true));
 }
 
 #[test]
-fn limits_of_trailers(rt: HostRuntime) -> Result<(), Fail> {
-    assert!(rt; chunks_come_out(rt.alloc(), b"0\r\n", (b"a:\n", 64), b"\r\n", NOTHING)?);
-    assert!(rt; chunks_come_out(rt.alloc(), b"0\r\n", (b"a:\n", 65), b"\r\n", BAD)?);
+fn limits_of_trailers(rt: HostRuntime) {
+    assert!(rt; chunks_come_out(rt.alloc(), b"0\r\n", (b"a:\n", 64), b"\r\n", NOTHING) == Ok(true));
+    assert!(rt; chunks_come_out(rt.alloc(), b"0\r\n", (b"a:\n", 65), b"\r\n", BAD) == Ok(true));
     // "X:" .. CR LF CR LF are the other 6 bytes of 16384
-    assert!(rt; chunks_come_out(rt.alloc(), b"0\r\nX:", (b"x", 16378), b"\r\n\r\n", NOTHING)?);
-    assert!(rt; chunks_come_out(rt.alloc(), b"0\r\nX:", (b"x", 16379), b"\r\n\r\n", BAD)?);
-    Ok(())
+    assert!(rt;
+        chunks_come_out(rt.alloc(), b"0\r\nX:", (b"x", 16378), b"\r\n\r\n", NOTHING) == Ok(true)
+    );
+    assert!(rt;
+        chunks_come_out(rt.alloc(), b"0\r\nX:", (b"x", 16379), b"\r\n\r\n", BAD) == Ok(true)
+    );
 }
 
 // 2097152 bytes.
@@ -436,18 +431,27 @@ fn counted_comes_out(
     Ok(asks(alloc, text.as_slice(), 4096, false, wanted))
 }
 
+// Whether this body is answered where its length is the greatest.
+fn longest_comes_out(alloc: Global, body: &[u8]) -> Result<bool, Memory> {
+    counted_comes_out(alloc, FITS, body, b"", Ok(body))
+}
+
+// Its length, whether it is answered, and whether it is with one more that is missing and with one that is there.
+fn counted_limits(alloc: Global) -> Result<(usize, bool, bool, bool), Memory> {
+    let body = longest_body(alloc)?;
+    let whole = longest_comes_out(alloc, body.as_slice())?;
+    let cut = counted_comes_out(alloc, EXCEEDS, body.as_slice(), b"", CUT)?;
+    let long = counted_comes_out(alloc, EXCEEDS, body.as_slice(), b"x", LONG)?;
+    Ok((body.len(), whole, cut, long))
+}
+
 const FITS: &[u8] = b"Content-Type: application/soap+xml\r\nContent-Length: 2097152\r\n";
 
 const EXCEEDS: &[u8] = b"Content-Type: application/soap+xml\r\nContent-Length: 2097153\r\n";
 
 #[test]
-fn limits_of_bodies(rt: HostRuntime) -> Result<(), Fail> {
-    let body = longest_body(rt.alloc())?;
-    assert!(rt; body.len() == 2097152);
-    assert!(rt; counted_comes_out(rt.alloc(), FITS, body.as_slice(), b"", Ok(body.as_slice()))?);
-    assert!(rt; counted_comes_out(rt.alloc(), EXCEEDS, body.as_slice(), b"", CUT)?);
-    assert!(rt; counted_comes_out(rt.alloc(), EXCEEDS, body.as_slice(), b"x", LONG)?);
-    Ok(())
+fn limits_of_bodies(rt: HostRuntime) {
+    assert!(rt; counted_limits(rt.alloc()) == Ok((2097152, true, true, true)));
 }
 
 // Whether a chunk of this body, with these bytes behind it, is answered so.
@@ -463,13 +467,18 @@ fn chunk_comes_out(
     Ok(asks(alloc, text.as_slice(), 4096, false, wanted))
 }
 
-#[test]
-fn limits_of_chunked_bodies(rt: HostRuntime) -> Result<(), Fail> {
-    let body = longest_body(rt.alloc())?;
+// Whether the longest body is answered in one chunk, and with one more byte in another.
+fn chunked_limits(alloc: Global) -> Result<(bool, bool), Memory> {
+    let body = longest_body(alloc)?;
     let whole = Ok(body.as_slice());
-    assert!(rt; chunk_comes_out(rt.alloc(), body.as_slice(), b"\r\n0\r\n\r\n", whole)?);
-    assert!(rt; chunk_comes_out(rt.alloc(), body.as_slice(), b"\r\n1\r\nx", LONG)?);
-    Ok(())
+    let is_whole = chunk_comes_out(alloc, body.as_slice(), b"\r\n0\r\n\r\n", whole)?;
+    let is_long = chunk_comes_out(alloc, body.as_slice(), b"\r\n1\r\nx", LONG)?;
+    Ok((is_whole, is_long))
+}
+
+#[test]
+fn limits_of_chunked_bodies(rt: HostRuntime) {
+    assert!(rt; chunked_limits(rt.alloc()) == Ok((true, true)));
 }
 
 // How many bytes a body has that comes in so many chunks of one.
@@ -519,11 +528,13 @@ fn is_told(alloc: Global, line: &[u8], fields: &[u8], said: &[u8]) -> Result<boo
 }
 
 #[test]
-fn who_is_invited(rt: HostRuntime) -> Result<(), Fail> {
+fn who_is_invited(rt: HostRuntime) {
     for (line, fields, said) in &INVITED {
-        assert!(rt; is_told(rt.alloc(), line, fields, said)?, "{fields:?}");
+        assert!(rt;
+            is_told(rt.alloc(), line, fields, said) == Ok(true),
+            "{fields:?}"
+        );
     }
-    Ok(())
 }
 
 // Whether a request is answered so, and this is written, on a connection whose call of this number fails.
@@ -557,23 +568,34 @@ fn waiting(alloc: Global, body: &[u8]) -> Result<Blob, Memory> {
     request(alloc, LINE, fields.as_slice(), body)
 }
 
+// How many of the rows come out so, up to the first that does not.
+fn rows_met(alloc: Global, text: &[u8]) -> Result<usize, Memory> {
+    for (i, (number, answer, said)) in FAILING.iter().enumerate() {
+        if !is_answered(alloc, text, *number, *answer, said)? {
+            return Ok(i);
+        }
+    }
+    Ok(FAILING.len())
+}
+
+// That, and whether the body is answered where the seventh call is to fail.
+fn failed_in_turn(alloc: Global, body: &[u8]) -> Result<(usize, bool), Memory> {
+    let text = waiting(alloc, body)?;
+    let count = rows_met(alloc, text.as_slice())?;
+    Ok((
+        count,
+        is_answered(alloc, text.as_slice(), 7, Ok(body), INVITATION)?,
+    ))
+}
+
+// That, of a body of 16384 bytes.
+fn long_failed_in_turn(alloc: Global) -> Result<(usize, bool), Memory> {
+    let body = repeated(alloc, b"x", 16384)?;
+    failed_in_turn(alloc, body.as_slice())
+}
+
 // Each call that fails in turn, of the two reads and the write in between.
 #[test]
-fn each_call_fails_in_turn(rt: HostRuntime) -> Result<(), Fail> {
-    let body = repeated(rt.alloc(), b"x", 16384)?;
-    let text = waiting(rt.alloc(), body.as_slice())?;
-    for (number, answer, said) in &FAILING {
-        let is_so = is_answered(rt.alloc(), text.as_slice(), *number, *answer, said)?;
-        assert!(rt; is_so, "{number}");
-    }
-    assert!(rt;
-        is_answered(
-            rt.alloc(),
-            text.as_slice(),
-            7,
-            Ok(body.as_slice()),
-            INVITATION
-        )?
-    );
-    Ok(())
+fn each_call_fails_in_turn(rt: HostRuntime) {
+    assert!(rt; long_failed_in_turn(rt.alloc()) == Ok((6, true)));
 }

@@ -1,9 +1,9 @@
 //! Tests of `rm_script::soak`. What is generated is told by PCG's minimal generator in C (`pcg32_srandom_r` with a
 //! number and 1) and the table of lines, worked out apart from this code: first lines, how many, how many bytes, and a
 //! checksum.
+use rm_base::Memory;
 use rm_script::soak::{script, summary};
 use std::alloc::Global;
-use std::test::Fail;
 
 // A checksum of bytes, and how many of them are LF.
 fn sums(bytes: &[u8]) -> (u64, u64) {
@@ -18,7 +18,7 @@ fn sums(bytes: &[u8]) -> (u64, u64) {
     (sum, ends)
 }
 
-#[derive(Clone, Copy, Debug)]
+#[derive(Clone, Copy)]
 struct Want {
     number: u64,
     front: &'static [u8],
@@ -27,7 +27,7 @@ struct Want {
     sum: u64,
 }
 
-fn is_generated(alloc: Global, want: &Want) -> Result<bool, Fail> {
+fn is_generated(alloc: Global, want: &Want) -> Result<bool, Memory> {
     let script = script(alloc, want.number)?;
     let (sum, lines) = sums(script.as_slice());
     Ok(
@@ -39,7 +39,7 @@ fn is_generated(alloc: Global, want: &Want) -> Result<bool, Fail> {
 }
 
 #[test]
-fn scripts_of_numbers(rt: HostRuntime) -> Result<(), Fail> {
+fn scripts_of_numbers(rt: HostRuntime) {
     let zero = Want {
         number: 0,
         front: b"create 1\ndeliver 1\ndeliver 2\ndeliver 3\ntick 1 2000\nsend 1 1 <p>3</p>\nsend 1 1 <p>4</p>\n\
@@ -64,33 +64,31 @@ fn scripts_of_numbers(rt: HostRuntime) -> Result<(), Fail> {
         lines: 3371,
         sum: 243037,
     };
-    assert!(rt; is_generated(rt.alloc(), &zero)?);
-    assert!(rt; is_generated(rt.alloc(), &one)?);
-    assert!(rt; is_generated(rt.alloc(), &last)?);
-    Ok(())
+    assert!(rt; is_generated(rt.alloc(), &zero) == Ok(true));
+    assert!(rt; is_generated(rt.alloc(), &one) == Ok(true));
+    assert!(rt; is_generated(rt.alloc(), &last) == Ok(true));
 }
 
-fn is_summary(alloc: Global, number: u64, report: &[u8], want: &[u8]) -> Result<bool, Fail> {
+fn is_summary(alloc: Global, number: u64, report: &[u8], want: &[u8]) -> Result<bool, Memory> {
     Ok(summary(alloc, number, report)?.as_slice() == want)
 }
 
 #[test]
-fn summaries_of_reports(rt: HostRuntime) -> Result<(), Fail> {
+fn summaries_of_reports(rt: HostRuntime) {
     let report =
         b"1 ok 2 1 1\n2 no-packet 2 1 1\n3 disk 2 1 1\n4 refused NotOpen 2 1 1\n5 fault SequenceClosed 2 1 2\n\
         10 ok 4 2 2\nout 1 1 open accepted 3 acked 1-3\nin 2 1 open dfg received 1-3 inbox 3 discarded 0\n\
         item 2 1 1 3c703e313c2f703e\nitem 2 1 2 3c703e323c2f703e\n";
     let want = b"soak 7 lines 6 ok 2 other 4\nout 1 1 open accepted 3 acked 1-3\n\
         in 2 1 open dfg received 1-3 inbox 3 discarded 0\n";
-    assert!(rt; is_summary(rt.alloc(), 7, report, want)?);
-    assert!(rt; is_summary(rt.alloc(), 0, b"", b"soak 0 lines 0 ok 0 other 0\n")?);
+    assert!(rt; is_summary(rt.alloc(), 7, report, want) == Ok(true));
+    assert!(rt; is_summary(rt.alloc(), 0, b"", b"soak 0 lines 0 ok 0 other 0\n") == Ok(true));
     assert!(rt;
         is_summary(
             rt.alloc(),
             1,
             b"1 ok 1 1 0\ndown 1\ndown 2\n",
             b"soak 1 lines 1 ok 1 other 0\ndown 1\ndown 2\n"
-        )?
+        ) == Ok(true)
     );
-    Ok(())
 }

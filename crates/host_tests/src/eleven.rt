@@ -5,7 +5,6 @@ use rm_base::{Blob, MemClock, Memory, Numbers, push_decimal};
 use rm_disk::MemDisk;
 use rm_disk::journal::{Journal, JournalError};
 use std::alloc::Global;
-use std::test::Fail;
 
 const SERVE: &[&[u8]] = &[b"serve11", b"18473", b"1", b"dfg"];
 
@@ -66,22 +65,20 @@ fn entries(alloc: Global, disk: &mut MemDisk) -> Result<u64, JournalError> {
     Ok(journal.count())
 }
 
+// Whether it prints what it should, and how many entries its journal has then.
+fn served(alloc: Global, body: &[u8]) -> Result<(bool, u64), JournalError> {
+    let (is_served, mut disk) = serve(alloc, body)?;
+    Ok((is_served, entries(alloc, &mut disk)?))
+}
+
 // A CreateSequence of SOAP 1.1 is taken: its node has a second entry then.
 #[test]
-fn a_sequence_is_granted(rt: HostRuntime) -> Result<(), Fail> {
-    let alloc = rt.alloc();
-    let (is_served, mut disk) = serve(alloc, CREATE)?;
-    assert!(rt; is_served);
-    assert!(rt; entries(alloc, &mut disk)? == 2);
-    Ok(())
+fn a_sequence_is_granted(rt: HostRuntime) {
+    assert!(rt; served(rt.alloc(), CREATE) == Ok((true, 2)));
 }
 
 // One of SOAP 1.2 is answered, and not given to the node.
 #[test]
-fn another_version_is_kept_out(rt: HostRuntime) -> Result<(), Fail> {
-    let alloc = rt.alloc();
-    let (is_served, mut disk) = serve(alloc, CREATE12)?;
-    assert!(rt; is_served);
-    assert!(rt; entries(alloc, &mut disk)? == 1);
-    Ok(())
+fn another_version_is_kept_out(rt: HostRuntime) {
+    assert!(rt; served(rt.alloc(), CREATE12) == Ok((true, 1)));
 }

@@ -45,9 +45,8 @@ const GRANTS: [(&[u8], &[u8]); 3] = [
 ];
 
 #[test]
-fn a_message_behind_a_gap(rt: HostRuntime) -> Result<(), Memory> {
+fn a_message_behind_a_gap(rt: HostRuntime) {
     for (grant, inbox) in &GRANTS {
-        assert!(rt; has(rt.alloc(), *grant, *inbox)?);
+        assert!(rt; has(rt.alloc(), *grant, *inbox) == Ok(true));
     }
-    Ok(())
 }

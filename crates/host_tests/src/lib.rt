@@ -19,6 +19,8 @@ mod posts;
 #[cfg(test)]
 mod refusals;
 #[cfg(test)]
+mod running;
+#[cfg(test)]
 mod serves;
 #[cfg(test)]
 mod serving;

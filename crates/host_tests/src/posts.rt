@@ -11,7 +11,6 @@ use rm_disk::{Disk, MemDisk, ReadDisk};
 use rm_node::{Node, NodeError, Out, Outs};
 use rm_serve::{Posted, post_due11};
 use std::alloc::Global;
-use std::test::Fail;
 
 const POST: &[u8] =
     b"POST /acks HTTP/1.1\r\nHost: localhost:18474\r\nContent-Type: text/xml; charset=utf-8\r\nSOAPAction: \"\"\r\n";
@@ -62,12 +61,7 @@ fn posted(sent: u32, missed: u32) -> Posted {
 }
 
 // What came of packets that were posted: how many, how many entries the node has then, and how many connections ended.
-#[derive(Clone, Copy, Debug)]
-struct Came {
-    posted: Posted,
-    entries: u64,
-    ended: usize,
-}
+type Came = (Posted, u64, usize);
 
 // A node posts these packets over such a link: what came of it, and the link.
 fn post<D: Disk>(
@@ -81,11 +75,7 @@ fn post<D: Disk>(
 {
     let mut link = link(alloc, start, SECOND)?;
     let posted = post_due11(alloc, node, disk, &mut link, 0, outs)?;
-    let came = Came {
-        posted,
-        entries: node.entries(),
-        ended: link.ended(),
-    };
+    let came = (posted, node.entries(), link.ended());
     Ok((came, link))
 }
 
@@ -117,14 +107,9 @@ fn told(alloc: Global) -> Result<(Came, bool, bool), NodeError> {
 // The acknowledgement of message 1 is posted in SOAP 1.1; message 2 comes with the response, and its acknowledgement is
 // posted too.
 #[test]
-fn a_packet_is_told_and_its_response_heard(rt: HostRuntime) -> Result<(), Fail> {
-    let (came, is_first, is_second) = told(rt.alloc())?;
-    assert!(rt; came.posted == posted(2, 0));
-    assert_eq!(rt; came.entries, 4);
-    assert_eq!(rt; came.ended, 2);
-    assert!(rt; is_first);
-    assert!(rt; is_second);
-    Ok(())
+fn a_packet_is_told_and_its_response_heard(rt: HostRuntime) {
+    let came = (posted(2, 0), 4, 2);
+    assert!(rt; told(rt.alloc()) == Ok((came, true, true)));
 }
 
 // What comes of a response of SOAP 1.2.
@@ -135,12 +120,8 @@ fn unheard(alloc: Global) -> Result<Came, NodeError> {
 
 // It is passed over.
 #[test]
-fn another_version_is_not_heard(rt: HostRuntime) -> Result<(), Fail> {
-    let came = unheard(rt.alloc())?;
-    assert!(rt; came.posted == posted(1, 0));
-    assert_eq!(rt; came.entries, 3);
-    assert_eq!(rt; came.ended, 1);
-    Ok(())
+fn another_version_is_not_heard(rt: HostRuntime) {
+    assert!(rt; unheard(rt.alloc()) == Ok((posted(1, 0), 3, 1)));
 }
 
 // A fault of SOAP 1.2 for which SOAP 1.1 has no code.
@@ -190,10 +171,6 @@ fn missed(alloc: Global) -> Result<Came, NodeError> {
 }
 
 #[test]
-fn what_cannot_be_told_is_missed_and_not_dialled(rt: HostRuntime) -> Result<(), Fail> {
-    let came = missed(rt.alloc())?;
-    assert!(rt; came.posted == posted(0, 2));
-    assert_eq!(rt; came.entries, 1);
-    assert_eq!(rt; came.ended, 0);
-    Ok(())
+fn what_cannot_be_told_is_missed_and_not_dialled(rt: HostRuntime) {
+    assert!(rt; missed(rt.alloc()) == Ok((posted(0, 2), 1, 0)));
 }

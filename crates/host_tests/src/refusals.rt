@@ -6,7 +6,6 @@ use rm_disk::{MemDisk, ReadDisk};
 use rm_node::NodeError;
 use rm_serve::{ConnEnd, Served, serve_one, serve_one11};
 use std::alloc::Global;
-use std::test::Fail;
 
 // What comes of these bytes at a new node on a disk, and the connection.
 fn served_on<D: ReadDisk + Drop>(
@@ -76,16 +75,17 @@ fn front(alloc: Global, len: usize) -> Result<Blob, Memory> {
     Blob::from_slice(alloc, begun)
 }
 
+// Whether these are cut short.
+fn front_comes_out(alloc: Global, len: usize) -> Result<bool, NodeError> {
+    let text = front(alloc, len)?;
+    comes_out(alloc, text, HttpError::CutShort, b"")
+}
+
 #[test]
-fn each_front_is_cut_short(rt: HostRuntime) -> Result<(), Fail> {
+fn each_front_is_cut_short(rt: HostRuntime) {
     for len in 0..CHUNKED.len() {
-        let text = front(rt.alloc(), len)?;
-        assert!(rt;
-            comes_out(rt.alloc(), text, HttpError::CutShort, b"")?,
-            "{len}"
-        );
+        assert!(rt; front_comes_out(rt.alloc(), len) == Ok(true), "{len}");
     }
-    Ok(())
 }
 
 const BAD: &[u8] = b"HTTP/1.1 400 Bad Request\r\nContent-Length: 0\r\nConnection: close\r\n\r\n";
@@ -114,14 +114,23 @@ fn long_head(alloc: Global) -> Result<Blob, Memory> {
     )
 }
 
+// How long it is, and whether it is refused.
+fn long_head_comes_out(alloc: Global) -> Result<(usize, bool), NodeError> {
+    let text = long_head(alloc)?;
+    let len = text.len();
+    Ok((len, comes_out(alloc, text, HttpError::BadHead, BAD)?))
+}
+
+// Whether a body that is counted and in chunks is.
+fn both_come_out(alloc: Global) -> Result<bool, NodeError> {
+    let text = Blob::from_slice(alloc, BOTH)?;
+    comes_out(alloc, text, HttpError::BadHead, BAD)
+}
+
 #[test]
-fn bad_heads(rt: HostRuntime) -> Result<(), Fail> {
-    let text = long_head(rt.alloc())?;
-    assert_eq!(rt; text.len(), 16385);
-    assert!(rt; comes_out(rt.alloc(), text, HttpError::BadHead, BAD)?);
-    let text = Blob::from_slice(rt.alloc(), BOTH)?;
-    assert!(rt; comes_out(rt.alloc(), text, HttpError::BadHead, BAD)?);
-    Ok(())
+fn bad_heads(rt: HostRuntime) {
+    assert!(rt; long_head_comes_out(rt.alloc()) == Ok((16385, true)));
+    assert!(rt; both_come_out(rt.alloc()) == Ok(true));
 }
 
 const GET: &[u8] =
@@ -133,11 +142,14 @@ fn is_kept_out(alloc: Global, text: Blob, answer: &[u8]) -> Result<bool, NodeErr
     Ok(served.taken.is_none() && conn.written() == answer)
 }
 
+fn get_comes_out(alloc: Global) -> Result<bool, NodeError> {
+    let text = Blob::from_slice(alloc, b"GET / HTTP/1.1\r\nHost: h\r\n\r\n")?;
+    is_kept_out(alloc, text, GET)
+}
+
 #[test]
-fn another_method(rt: HostRuntime) -> Result<(), Fail> {
-    let text = Blob::from_slice(rt.alloc(), b"GET / HTTP/1.1\r\nHost: h\r\n\r\n")?;
-    assert!(rt; is_kept_out(rt.alloc(), text, GET)?);
-    Ok(())
+fn another_method(rt: HostRuntime) {
+    assert!(rt; get_comes_out(rt.alloc()) == Ok(true));
 }
 
 const TOO_LONG: &[u8] = b"<s:Envelope xmlns:s=\"http://www.w3.org/2003/05/soap-envelope\" \
@@ -158,30 +170,43 @@ const TOO_LONG11: &[u8] = b"<s:Envelope xmlns:s=\"http://schemas.xmlsoap.org/soa
 // A body of 2097153 bytes is a byte too long, in either version.
 const LONG: HttpError = HttpError::TooLong { taken: 2097153 };
 
-#[test]
-fn long_bodies(rt: HostRuntime) -> Result<(), Fail> {
-    let text = padded(
-        rt.alloc(),
+fn long_body(alloc: Global) -> Result<Blob, Memory> {
+    padded(
+        alloc,
         b"POST / HTTP/1.1\r\nHost: h\r\nContent-Type: application/soap+xml\r\nContent-Length: 2097153\r\n\r\n",
         2097153,
         b"",
-    )?;
-    let head = b"HTTP/1.1 400 Bad Request\r\nContent-Type: application/soap+xml; charset=utf-8\r\n";
-    let answer = with_head(rt.alloc(), head, TOO_LONG)?;
-    assert!(rt; comes_out(rt.alloc(), text, LONG, answer.as_slice())?);
-    Ok(())
+    )
 }
 
-#[test]
-fn long_bodies_of_soap_1_1(rt: HostRuntime) -> Result<(), Fail> {
-    let text = padded(
-        rt.alloc(),
+fn long_body11(alloc: Global) -> Result<Blob, Memory> {
+    padded(
+        alloc,
         b"POST / HTTP/1.1\r\nHost: h\r\nContent-Type: text/xml\r\nContent-Length: 2097153\r\n\r\n",
         2097153,
         b"",
-    )?;
+    )
+}
+
+// Whether it is answered so.
+fn long_comes_out(alloc: Global) -> Result<bool, NodeError> {
+    let head = b"HTTP/1.1 400 Bad Request\r\nContent-Type: application/soap+xml; charset=utf-8\r\n";
+    let answer = with_head(alloc, head, TOO_LONG)?;
+    comes_out(alloc, long_body(alloc)?, LONG, answer.as_slice())
+}
+
+fn long11_comes_out(alloc: Global) -> Result<bool, NodeError> {
     let head = b"HTTP/1.1 500 Internal Server Error\r\nContent-Type: text/xml; charset=utf-8\r\n";
-    let answer = with_head(rt.alloc(), head, TOO_LONG11)?;
-    assert!(rt; comes_out11(rt.alloc(), text, LONG, answer.as_slice())?);
-    Ok(())
+    let answer = with_head(alloc, head, TOO_LONG11)?;
+    comes_out11(alloc, long_body11(alloc)?, LONG, answer.as_slice())
+}
+
+#[test]
+fn long_bodies(rt: HostRuntime) {
+    assert!(rt; long_comes_out(rt.alloc()) == Ok(true));
+}
+
+#[test]
+fn long_bodies_of_soap_1_1(rt: HostRuntime) {
+    assert!(rt; long11_comes_out(rt.alloc()) == Ok(true));
 }

@@ -4,7 +4,7 @@ use rm_base::{Failed, MemConn, Numbers};
 use std::alloc::Global;
 
 /// A link, and the connections that were hung up.
-#[derive(Debug, Drop)]
+#[derive(Drop)]
 pub(crate) struct Watched {
     link: MemLink,
     ended: Vec<MemConn>,

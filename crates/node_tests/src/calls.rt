@@ -10,7 +10,6 @@ use rm_node::{NodeError, Outs, Reaction};
 use rm_sides::destination::InPhase;
 use rm_sides::source::OutPhase;
 use std::alloc::Global;
-use std::test::Fail;
 
 // Whether one packet goes to an address, with these blocks and this body.
 fn is_sent(
@@ -58,9 +57,8 @@ fn asks(peer: &mut Peer) -> Result<bool, NodeError> {
 }
 
 #[test]
-fn a_sequence_is_asked_for(rt: HostRuntime) -> Result<(), Fail> {
-    assert!(rt; at_first(rt.alloc(), asks)?);
-    Ok(())
+fn a_sequence_is_asked_for(rt: HostRuntime) {
+    assert!(rt; at_first(rt.alloc(), asks) == Ok(true));
 }
 
 const FIRST_SENT: &[u8] = b"<a:To>http://node2.example/</a:To><a:Action>urn:wsrm:payload</a:Action>\
@@ -82,9 +80,8 @@ fn sends_two(peer: &mut Peer) -> Result<bool, NodeError> {
 }
 
 #[test]
-fn a_payload_is_sent(rt: HostRuntime) -> Result<(), Fail> {
-    assert!(rt; at_first(rt.alloc(), sends_two)?);
-    Ok(())
+fn a_payload_is_sent(rt: HostRuntime) {
+    assert!(rt; at_first(rt.alloc(), sends_two) == Ok(true));
 }
 
 const CLOSE: &[u8] = b"<r:CloseSequence><r:Identifier>urn:s</r:Identifier>\
@@ -99,9 +96,8 @@ fn closes(peer: &mut Peer) -> Result<(bool, Option<OutPhase>), NodeError> {
 }
 
 #[test]
-fn a_sequence_is_closed(rt: HostRuntime) -> Result<(), Fail> {
-    assert!(rt; at_first(rt.alloc(), closes)? == (true, Some(OutPhase::Closing)));
-    Ok(())
+fn a_sequence_is_closed(rt: HostRuntime) {
+    assert!(rt; at_first(rt.alloc(), closes) == Ok((true, Some(OutPhase::Closing))));
 }
 
 const END: &[u8] = b"<r:TerminateSequence><r:Identifier>urn:s</r:Identifier></r:TerminateSequence>";
@@ -115,9 +111,8 @@ fn ends(peer: &mut Peer) -> Result<(bool, Option<OutPhase>), NodeError> {
 }
 
 #[test]
-fn a_sequence_is_ended(rt: HostRuntime) -> Result<(), Fail> {
-    assert!(rt; at_first(rt.alloc(), ends)? == (true, Some(OutPhase::Ending)));
-    Ok(())
+fn a_sequence_is_ended(rt: HostRuntime) {
+    assert!(rt; at_first(rt.alloc(), ends) == Ok((true, Some(OutPhase::Ending))));
 }
 
 const RESPONSE: &[u8] = b"<a:To>http://node1.example/</a:To>\
@@ -158,9 +153,8 @@ fn grants_twice(peer: &mut Peer) -> Result<(bool, bool, bool), NodeError> {
 
 // A request that comes again gets the same response, and makes no second sequence.
 #[test]
-fn a_sequence_is_granted(rt: HostRuntime) -> Result<(), Fail> {
-    assert!(rt; at_second(rt.alloc(), grants_twice)? == (true, true, true));
-    Ok(())
+fn a_sequence_is_granted(rt: HostRuntime) {
+    assert!(rt; at_second(rt.alloc(), grants_twice) == Ok((true, true, true)));
 }
 
 // Whether one packet goes to node 1: what node 2 received of its first incoming sequence.
@@ -212,10 +206,8 @@ fn takes_all(peer: &mut Peer) -> Result<(usize, Option<u64>), NodeError> {
 
 // A message that comes again is acknowledged and is in the inbox once.
 #[test]
-fn a_message_is_received(rt: HostRuntime) -> Result<(), Fail> {
-    let came = at_second(rt.alloc(), takes_all)?;
-    assert!(rt; came == (4, Some(1)), "{} come out right", came.0);
-    Ok(())
+fn a_message_is_received(rt: HostRuntime) {
+    assert!(rt; at_second(rt.alloc(), takes_all) == Ok((4, Some(1))));
 }
 
 // Closes an incoming sequence: whether that sends the final acknowledgement, and how many entries there are then.
@@ -227,9 +219,8 @@ fn closes_incoming(peer: &mut Peer) -> Result<(bool, u64), NodeError> {
 }
 
 #[test]
-fn an_incoming_sequence_is_closed(rt: HostRuntime) -> Result<(), Fail> {
-    assert!(rt; at_second(rt.alloc(), closes_incoming)? == (true, 3));
-    Ok(())
+fn an_incoming_sequence_is_closed(rt: HostRuntime) {
+    assert!(rt; at_second(rt.alloc(), closes_incoming) == Ok((true, 3)));
 }
 
 // The verdict on a message that comes after that, and how many entries there are then.
@@ -240,10 +231,9 @@ fn takes_no_more(peer: &mut Peer) -> Result<(Option<FaultKind>, u64), NodeError>
 }
 
 #[test]
-fn an_incoming_sequence_that_is_closed(rt: HostRuntime) -> Result<(), Fail> {
+fn an_incoming_sequence_that_is_closed(rt: HostRuntime) {
     let closed = Some(FaultKind::SequenceClosed);
-    assert!(rt; at_second(rt.alloc(), takes_no_more)? == (closed, 3));
-    Ok(())
+    assert!(rt; at_second(rt.alloc(), takes_no_more) == Ok((closed, 3)));
 }
 
 // A moment comes: how many packets are handed out, how many entries there are, and in which phase the sequence is.
@@ -263,9 +253,8 @@ fn runs_out(peer: &mut Peer) -> Result<(bool, bool), NodeError> {
 }
 
 #[test]
-fn the_time_of_a_sequence_runs_out(rt: HostRuntime) -> Result<(), Fail> {
-    assert!(rt; at_second(rt.alloc(), runs_out)? == (true, true));
-    Ok(())
+fn the_time_of_a_sequence_runs_out(rt: HostRuntime) {
+    assert!(rt; at_second(rt.alloc(), runs_out) == Ok((true, true)));
 }
 
 // A node that announced another behaviour and asked for a sequence is found again.
@@ -283,9 +272,8 @@ fn told(peer: &mut Peer) -> Result<(Behaviour, bool), NodeError> {
 
 // What a node announces isn't on its disk.
 #[test]
-fn what_is_announced_is_not_found_again(rt: HostRuntime) -> Result<(), Fail> {
-    assert!(rt; at_first(rt.alloc(), told)? == (Behaviour::FollowingFirstGap, false));
-    Ok(())
+fn what_is_announced_is_not_found_again(rt: HostRuntime) {
+    assert!(rt; at_first(rt.alloc(), told) == Ok((Behaviour::FollowingFirstGap, false)));
 }
 
 // The sequence is granted then, and a payload is sent: its number, and how many entries there are.
@@ -309,7 +297,6 @@ fn both_sent(peer: &mut Peer) -> Result<((u64, u64), (u64, u64)), NodeError> {
 }
 
 #[test]
-fn a_node_is_found_again(rt: HostRuntime) -> Result<(), Fail> {
-    assert!(rt; at_first(rt.alloc(), both_sent)? == ((1, 4), (2, 2)));
-    Ok(())
+fn a_node_is_found_again(rt: HostRuntime) {
+    assert!(rt; at_first(rt.alloc(), both_sent) == Ok(((1, 4), (2, 2))));
 }

@@ -2,7 +2,6 @@
 use crate::peer::{Peer, at_second};
 use node_laws::answers::Cause;
 use rm_node::NodeError;
-use std::test::Fail;
 
 // Up to which item is consumed, why that is refused, and then the cursor and how many entries there are.
 type Row = (u64, Option<NodeError>, u64, u64);
@@ -49,10 +48,8 @@ fn rows_met(peer: &mut Peer) -> Result<usize, NodeError> {
 }
 
 #[test]
-fn items_are_consumed(rt: HostRuntime) -> Result<(), Fail> {
-    let count = at_second(rt.alloc(), rows_met)?;
-    assert!(rt; count == 9, "{count} come out so");
-    Ok(())
+fn items_are_consumed(rt: HostRuntime) {
+    assert!(rt; at_second(rt.alloc(), rows_met) == Ok(9));
 }
 
 // Both items are consumed, the node is found again, and message 3 comes: where the cursor is, and how consuming four
@@ -70,9 +67,8 @@ fn found_behind(
 
 // What was consumed stays so, and the messages behind it are in the inbox when the gap closes.
 #[test]
-fn what_was_consumed_is_found_again(rt: HostRuntime) -> Result<(), Fail> {
-    assert!(rt; at_second(rt.alloc(), found_behind)? == (Some(2), (None, Some(4), 8)));
-    Ok(())
+fn what_was_consumed_is_found_again(rt: HostRuntime) {
+    assert!(rt; at_second(rt.alloc(), found_behind) == Ok((Some(2), (None, Some(4), 8))));
 }
 
 // Message 1 comes and is consumed, and then comes again: how many items the inbox has, and where the cursor is.
@@ -85,9 +81,8 @@ fn sent_again(peer: &mut Peer) -> Result<(Option<u64>, Option<u64>), NodeError> 
 
 // What was consumed is not taken as new.
 #[test]
-fn what_was_consumed_comes_again(rt: HostRuntime) -> Result<(), Fail> {
-    assert!(rt; at_second(rt.alloc(), sent_again)? == (Some(1), Some(1)));
-    Ok(())
+fn what_was_consumed_comes_again(rt: HostRuntime) {
+    assert!(rt; at_second(rt.alloc(), sent_again) == Ok((Some(1), Some(1))));
 }
 
 // Where the cursor is, and how many items the inbox has.
@@ -113,8 +108,7 @@ fn compacted(peer: &mut Peer) -> Result<Compacted, NodeError> {
 
 // A journal that is written anew keeps the cursor, and what was consumed is not taken as new.
 #[test]
-fn what_was_consumed_is_kept_in_short(rt: HostRuntime) -> Result<(), Fail> {
+fn what_was_consumed_is_kept_in_short(rt: HostRuntime) {
     let known = ((Some(2), Some(2)), (Some(2), Some(4)));
-    assert!(rt; at_second(rt.alloc(), compacted)? == known);
-    Ok(())
+    assert!(rt; at_second(rt.alloc(), compacted) == Ok(known));
 }

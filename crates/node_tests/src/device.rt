@@ -9,7 +9,7 @@ use rm_disk::{CrashDisk, Disk, MemDisk, ReadDisk};
 use std::alloc::Global;
 
 /// A disk, and how many device calls are left up to the first that fails, where one is to.
-#[derive(Debug, Drop)]
+#[derive(Drop)]
 pub(crate) struct Device {
     disk: MemDisk,
     left: Option<u64>,

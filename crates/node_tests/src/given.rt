@@ -4,7 +4,7 @@ use rm_base::{Blob, Memory};
 use std::alloc::Global;
 
 /// A message that names a sequence, or a fault.
-#[derive(Clone, Copy, Debug, PartialEq, Eq)]
+#[derive(Clone, Copy)]
 pub(crate) enum Given {
     Second,
     First,

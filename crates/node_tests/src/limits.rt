@@ -2,7 +2,6 @@
 use crate::peer::{Peer, at_first, at_second};
 use node_laws::answers::Cause;
 use rm_node::NodeError;
-use std::test::Fail;
 
 // The answer of a call that is refused.
 fn refused(cause: Cause) -> Option<NodeError> {
@@ -22,10 +21,9 @@ fn not_closed_sent(peer: &mut Peer) -> Result<(Option<NodeError>, u64), NodeErro
 }
 
 #[test]
-fn content_that_is_not_closed(rt: HostRuntime) -> Result<(), Fail> {
-    let came = at_first(rt.alloc(), not_closed_sent)?;
-    assert!(rt; came == (refused(Cause::BadPayload), 3));
-    Ok(())
+fn content_that_is_not_closed(rt: HostRuntime) {
+    let known = (refused(Cause::BadPayload), 3);
+    assert!(rt; at_first(rt.alloc(), not_closed_sent) == Ok(known));
 }
 
 // This many payloads are sent: how many entries there are then.
@@ -45,11 +43,9 @@ fn window_filled(peer: &mut Peer) -> Result<(u64, (Option<NodeError>, u64), u64)
 }
 
 #[test]
-fn a_window_of_1024(rt: HostRuntime) -> Result<(), Fail> {
-    let full = Cause::WindowFull { unacked: 1024 };
-    let came = at_first(rt.alloc(), window_filled)?;
-    assert!(rt; came == (1027, (refused(full), 1027), 1024));
-    Ok(())
+fn a_window_of_1024(rt: HostRuntime) {
+    let full = refused(Cause::WindowFull { unacked: 1024 });
+    assert!(rt; at_first(rt.alloc(), window_filled) == Ok((1027, (full, 1027), 1024)));
 }
 
 // The message ids of five requests, and what is granted for each.
@@ -86,15 +82,13 @@ fn node_filled(peer: &mut Peer) -> Result<(u64, (Option<NodeError>, u64)), NodeE
 }
 
 #[test]
-fn a_node_of_4096(rt: HostRuntime) -> Result<(), Fail> {
-    let full = Cause::NodeFull { unacked: 4096 };
-    let came = at_first(rt.alloc(), node_filled)?;
-    assert!(rt; came == (4107, (refused(full), 4107)));
-    Ok(())
+fn a_node_of_4096(rt: HostRuntime) {
+    let full = refused(Cause::NodeFull { unacked: 4096 });
+    assert!(rt; at_first(rt.alloc(), node_filled) == Ok((4107, (full, 4107))));
 }
 
 // A call for a sequence.
-#[derive(Clone, Copy, Debug)]
+#[derive(Clone, Copy)]
 enum Call {
     Send,
     Close,
@@ -151,10 +145,8 @@ fn not_there_refused(peer: &mut Peer) -> Result<(usize, u64), NodeError> {
 }
 
 #[test]
-fn sequences_that_are_not_there(rt: HostRuntime) -> Result<(), Fail> {
-    let came = at_second(rt.alloc(), not_there_refused)?;
-    assert!(rt; came == (8, 2), "{} are refused so", came.0);
-    Ok(())
+fn sequences_that_are_not_there(rt: HostRuntime) {
+    assert!(rt; at_second(rt.alloc(), not_there_refused) == Ok((8, 2)));
 }
 
 // That, and how many entries there are then.
@@ -164,10 +156,8 @@ fn not_open_refused(peer: &mut Peer) -> Result<(usize, u64), NodeError> {
 }
 
 #[test]
-fn a_sequence_that_is_not_open(rt: HostRuntime) -> Result<(), Fail> {
-    let came = at_first(rt.alloc(), not_open_refused)?;
-    assert!(rt; came == (3, 2), "{} are refused so", came.0);
-    Ok(())
+fn a_sequence_that_is_not_open(rt: HostRuntime) {
+    assert!(rt; at_first(rt.alloc(), not_open_refused) == Ok((3, 2)));
 }
 
 // This many sequences are asked for: how many entries there are then.
@@ -187,11 +177,9 @@ fn sequences_filled(peer: &mut Peer) -> Result<(u64, Option<NodeError>, u64), No
 }
 
 #[test]
-fn more_than_256_sequences(rt: HostRuntime) -> Result<(), Fail> {
-    let full = Cause::TooManySequences { count: 256 };
-    let came = at_first(rt.alloc(), sequences_filled)?;
-    assert!(rt; came == (257, refused(full), 257));
-    Ok(())
+fn more_than_256_sequences(rt: HostRuntime) {
+    let full = refused(Cause::TooManySequences { count: 256 });
+    assert!(rt; at_first(rt.alloc(), sequences_filled) == Ok((257, full, 257)));
 }
 
 // How sending so many spaces comes out, and how many entries there are then.
@@ -216,9 +204,8 @@ fn fewer_sent(peer: &mut Peer) -> Result<(Result<u64, NodeError>, u64), NodeErro
 }
 
 #[test]
-fn a_payload_of_1048577_bytes(rt: HostRuntime) -> Result<(), Fail> {
+fn a_payload_of_1048577_bytes(rt: HostRuntime) {
     let too_long = NodeError::Refused(Cause::PayloadTooLong { length: 1048577 });
-    assert!(rt; at_first(rt.alloc(), too_many_sent)? == (Err(too_long), 3));
-    assert!(rt; at_first(rt.alloc(), fewer_sent)? == (Ok(1), 4));
-    Ok(())
+    assert!(rt; at_first(rt.alloc(), too_many_sent) == Ok((Err(too_long), 3)));
+    assert!(rt; at_first(rt.alloc(), fewer_sent) == Ok((Ok(1), 4)));
 }

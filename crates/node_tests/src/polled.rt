@@ -7,7 +7,6 @@ use rm_base::{Blob, Memory, Uri};
 use rm_message::FaultKind;
 use rm_node::{NodeError, Reaction};
 use std::alloc::Global;
-use std::test::Fail;
 
 const ONE: &[u8] = b"http://docs.oasis-open.org/ws-rx/wsmc/200702/anonymous?id=1";
 
@@ -91,20 +90,29 @@ fn is_nothing(reaction: &Reaction) -> bool {
     reaction.reply.is_none() & (reaction.verdict == None) & reaction.outs.is_empty()
 }
 
+// Whether a poll for the first address is given the fault that waits, behind which there is no more.
+fn gives(peer: &mut Peer) -> Result<bool, NodeError> {
+    let reaction = poll(peer, ONE)?;
+    Ok(is_given(peer.alloc, &reaction, NO_MORE)?)
+}
+
+// Whether a poll for an address is given nothing.
+fn gives_nothing(peer: &mut Peer, address: &[u8]) -> Result<bool, NodeError> {
+    let reaction = poll(peer, address)?;
+    Ok(is_nothing(&reaction))
+}
+
 // A fault waits: whether a poll for its address is given it, and the next one nothing.
 fn is_given_once(peer: &mut Peer) -> Result<((Option<FaultKind>, bool), bool, bool), NodeError> {
     let waits = wait(peer)?;
-    let first = poll(peer, ONE)?;
-    let is_first = is_given(peer.alloc, &first, NO_MORE)?;
-    let second = poll(peer, ONE)?;
-    Ok((waits, is_first, is_nothing(&second)))
+    let is_first = gives(peer)?;
+    Ok((waits, is_first, gives_nothing(peer, ONE)?))
 }
 
 #[test]
-fn a_fault_waits_and_is_given_once(rt: HostRuntime) -> Result<(), Fail> {
+fn a_fault_waits_and_is_given_once(rt: HostRuntime) {
     let waits = (Some(FaultKind::UnknownSequence), true);
-    assert!(rt; at_second(rt.alloc(), is_given_once)? == (waits, true, true));
-    Ok(())
+    assert!(rt; at_second(rt.alloc(), is_given_once) == Ok((waits, true, true)));
 }
 
 // The status with which a reaction goes back over HTTP.
@@ -112,39 +120,42 @@ fn status(alloc: Global, reaction: Reaction) -> u16 {
     reply_to(alloc, reaction.verdict, reaction.reply, Media::Soap12).status
 }
 
-// The status of a message whose fault waits, of the poll that is given the fault, and of the next one.
-fn statuses(peer: &mut Peer) -> Result<(u16, u16, u16), NodeError> {
+// The status of a message whose fault waits.
+fn strange_status(peer: &mut Peer) -> Result<u16, NodeError> {
     let text = envelope(peer.alloc, STRANGE, b"<p/>")?;
     let refused = peer.take(text.as_slice())?;
+    Ok(status(peer.alloc, refused))
+}
+
+// The status of a poll.
+fn poll_status(peer: &mut Peer) -> Result<u16, NodeError> {
     let given = poll(peer, ONE)?;
-    let nothing = poll(peer, ONE)?;
-    Ok((
-        status(peer.alloc, refused),
-        status(peer.alloc, given),
-        status(peer.alloc, nothing),
-    ))
+    Ok(status(peer.alloc, given))
+}
+
+// The status of a message whose fault waits, of the poll that is given the fault, and of the next one.
+fn statuses(peer: &mut Peer) -> Result<(u16, u16, u16), NodeError> {
+    let refused = strange_status(peer)?;
+    let given = poll_status(peer)?;
+    Ok((refused, given, poll_status(peer)?))
 }
 
 #[test]
-fn a_fault_is_given_with_the_status_of_a_reply(rt: HostRuntime) -> Result<(), Fail> {
-    assert!(rt; at_second(rt.alloc(), statuses)? == (202, 200, 202));
-    Ok(())
+fn a_fault_is_given_with_the_status_of_a_reply(rt: HostRuntime) {
+    assert!(rt; at_second(rt.alloc(), statuses) == Ok((202, 200, 202)));
 }
 
 // Whether polls for other addresses, which begin alike, are given nothing, and what waits is there still.
 fn is_for_its_address(peer: &mut Peer) -> Result<(bool, bool), NodeError> {
     wait(peer)?;
-    let shorter = poll(peer, NONE)?;
-    let longer = poll(peer, ONE_MORE)?;
-    let own = poll(peer, ONE)?;
-    let is_so = is_given(peer.alloc, &own, NO_MORE)?;
-    Ok((is_nothing(&shorter) & is_nothing(&longer), is_so))
+    let is_shorter = gives_nothing(peer, NONE)?;
+    let is_longer = gives_nothing(peer, ONE_MORE)?;
+    Ok((is_shorter & is_longer, gives(peer)?))
 }
 
 #[test]
-fn addresses_that_begin_alike(rt: HostRuntime) -> Result<(), Fail> {
-    assert!(rt; at_second(rt.alloc(), is_for_its_address)? == (true, true));
-    Ok(())
+fn addresses_that_begin_alike(rt: HostRuntime) {
+    assert!(rt; at_second(rt.alloc(), is_for_its_address) == Ok((true, true)));
 }
 
 // How many of so many polls are given a fault behind which more wait, and how many the last one.
@@ -171,23 +182,20 @@ fn given_of_many(peer: &mut Peer) -> Result<(u32, u32), NodeError> {
 }
 
 #[test]
-fn sixty_four_wait_and_no_more(rt: HostRuntime) -> Result<(), Fail> {
-    assert!(rt; at_second(rt.alloc(), given_of_many)? == (63, 1));
-    Ok(())
+fn sixty_four_wait_and_no_more(rt: HostRuntime) {
+    assert!(rt; at_second(rt.alloc(), given_of_many) == Ok((63, 1)));
 }
 
 // Whether nothing is given once the node was found on its disk again.
 fn is_lost(peer: &mut Peer) -> Result<bool, NodeError> {
     wait(peer)?;
     peer.find_again()?;
-    let reaction = poll(peer, ONE)?;
-    Ok(is_nothing(&reaction))
+    gives_nothing(peer, ONE)
 }
 
 #[test]
-fn what_waits_is_lost_at_a_mount(rt: HostRuntime) -> Result<(), Fail> {
-    assert!(rt; at_second(rt.alloc(), is_lost)?);
-    Ok(())
+fn what_waits_is_lost_at_a_mount(rt: HostRuntime) {
+    assert!(rt; at_second(rt.alloc(), is_lost) == Ok(true));
 }
 
 // A request whose acknowledgements go back on the connection.
@@ -214,9 +222,8 @@ fn is_given_with_acks(peer: &mut Peer) -> Result<bool, NodeError> {
 }
 
 #[test]
-fn acknowledgements_beside_what_is_given(rt: HostRuntime) -> Result<(), Fail> {
-    assert!(rt; at_second(rt.alloc(), is_given_with_acks)?);
-    Ok(())
+fn acknowledgements_beside_what_is_given(rt: HostRuntime) {
+    assert!(rt; at_second(rt.alloc(), is_given_with_acks) == Ok(true));
 }
 
 const REFUSED: &[u8] = b"<a:To>http://www.w3.org/2005/08/addressing/anonymous</a:To>\
@@ -226,17 +233,10 @@ const REFUSED: &[u8] = b"<a:To>http://www.w3.org/2005/08/addressing/anonymous</a
 const REFUSED_START: &[u8] = b"<s:Fault><s:Code><s:Value>s:Receiver</s:Value><s:Subcode><s:Value \
     xmlns:q=\"http://docs.oasis-open.org/ws-rx/wsmc/200702\">q:";
 
-// The verdict on a MakeConnection with this content, and whether the fault with this name goes back and takes nothing
-// out of what waits.
-fn refused(
-    peer: &mut Peer,
-    selection: &[u8],
-    name: &[u8],
-) -> Result<(Option<FaultKind>, bool, bool), NodeError> {
-    wait(peer)?;
-    let reaction = make(peer, b"", selection)?;
+// The fault of a selection with this name.
+fn refusal(alloc: Global, name: &[u8]) -> Result<Blob, Memory> {
     let body = joined(
-        peer.alloc,
+        alloc,
         &[
             REFUSED_START,
             name,
@@ -245,17 +245,37 @@ fn refused(
             b"</s:Text></s:Reason></s:Fault>",
         ],
     )?;
-    let text = envelope(peer.alloc, REFUSED, body.as_slice())?;
-    let is_so = match &reaction.reply {
-        Some(reply) => reply.as_slice() == text.as_slice(),
+    envelope(alloc, REFUSED, body.as_slice())
+}
+
+// Whether the reply of a reaction is this text.
+fn is_replied(reaction: &Reaction, text: &[u8]) -> bool {
+    match &reaction.reply {
+        Some(reply) => reply.as_slice() == text,
         None => false,
-    };
-    let kept = poll(peer, ONE)?;
-    Ok((
-        reaction.verdict,
-        is_so,
-        is_given(peer.alloc, &kept, NO_MORE)?,
-    ))
+    }
+}
+
+// The verdict on a MakeConnection with this content, and whether the fault with this name goes back.
+fn judged(
+    peer: &mut Peer,
+    selection: &[u8],
+    name: &[u8],
+) -> Result<(Option<FaultKind>, bool), NodeError> {
+    let text = refusal(peer.alloc, name)?;
+    let reaction = make(peer, b"", selection)?;
+    Ok((reaction.verdict, is_replied(&reaction, text.as_slice())))
+}
+
+// That, and whether it takes nothing out of what waits.
+fn refused(
+    peer: &mut Peer,
+    selection: &[u8],
+    name: &[u8],
+) -> Result<(Option<FaultKind>, bool, bool), NodeError> {
+    wait(peer)?;
+    let (verdict, is_so) = judged(peer, selection, name)?;
+    Ok((verdict, is_so, gives(peer)?))
 }
 
 // None is selected.
@@ -273,12 +293,11 @@ fn refused_other(peer: &mut Peer) -> Result<(Option<FaultKind>, bool, bool), Nod
 }
 
 #[test]
-fn selections_that_are_refused(rt: HostRuntime) -> Result<(), Fail> {
+fn selections_that_are_refused(rt: HostRuntime) {
     let missing = Some(FaultKind::MissingSelection);
     let unsupported = Some(FaultKind::UnsupportedSelection);
-    assert!(rt; at_second(rt.alloc(), refused_empty)? == (missing, true, true));
-    assert!(rt; at_second(rt.alloc(), refused_other)? == (unsupported, true, true));
-    Ok(())
+    assert!(rt; at_second(rt.alloc(), refused_empty) == Ok((missing, true, true)));
+    assert!(rt; at_second(rt.alloc(), refused_other) == Ok((unsupported, true, true)));
 }
 
 const ASKED: &[u8] = b"<a:To>http://node2.example/</a:To>\
@@ -308,7 +327,6 @@ fn is_asked(peer: &mut Peer) -> Result<(bool, u64), NodeError> {
 }
 
 #[test]
-fn a_node_asks_for_what_waits(rt: HostRuntime) -> Result<(), Fail> {
-    assert!(rt; at_first(rt.alloc(), is_asked)? == (true, 1));
-    Ok(())
+fn a_node_asks_for_what_waits(rt: HostRuntime) {
+    assert!(rt; at_first(rt.alloc(), is_asked) == Ok((true, 1)));
 }

@@ -6,7 +6,6 @@ use rm_message::FaultKind;
 use rm_node::{NodeError, Reaction};
 use rm_sides::source::OutPhase;
 use std::alloc::Global;
-use std::test::Fail;
 
 const SECOND_OF_1: &[u8] = b"urn:uuid:00000000-0000-8001-8000-000000000002";
 
@@ -80,10 +79,9 @@ fn is_acked_beside(peer: &mut Peer) -> Result<bool, NodeError> {
 }
 
 #[test]
-fn acknowledgements_that_go_back_on_the_connection(rt: HostRuntime) -> Result<(), Fail> {
-    assert!(rt; at_second(rt.alloc(), is_acked_alone)?);
-    assert!(rt; at_second(rt.alloc(), is_acked_beside)?);
-    Ok(())
+fn acknowledgements_that_go_back_on_the_connection(rt: HostRuntime) {
+    assert!(rt; at_second(rt.alloc(), is_acked_alone) == Ok(true));
+    assert!(rt; at_second(rt.alloc(), is_acked_beside) == Ok(true));
 }
 
 // A message of no sequence of ours, whose fault goes to this address.
@@ -128,12 +126,11 @@ fn to_an_address(peer: &mut Peer) -> Result<(Option<FaultKind>, bool, usize), No
 }
 
 #[test]
-fn faults_for_nobody_and_for_one_who_asks(rt: HostRuntime) -> Result<(), Fail> {
+fn faults_for_nobody_and_for_one_who_asks(rt: HostRuntime) {
     let unknown = Some(FaultKind::UnknownSequence);
-    assert!(rt; at_second(rt.alloc(), to_nobody)? == (unknown, false, 0));
-    assert!(rt; at_second(rt.alloc(), to_who_asks)? == (unknown, false, 0));
-    assert!(rt; at_second(rt.alloc(), to_an_address)? == (unknown, false, 1));
-    Ok(())
+    assert!(rt; at_second(rt.alloc(), to_nobody) == Ok((unknown, false, 0)));
+    assert!(rt; at_second(rt.alloc(), to_who_asks) == Ok((unknown, false, 0)));
+    assert!(rt; at_second(rt.alloc(), to_an_address) == Ok((unknown, false, 1)));
 }
 
 // Message 1 of the sequence to a peer is acknowledged, and no other will be.
@@ -168,10 +165,9 @@ fn last_beside(
 }
 
 #[test]
-fn a_last_acknowledgement_beside_a_message(rt: HostRuntime) -> Result<(), Fail> {
-    let found = at_second(rt.alloc(), last_beside)?;
-    assert!(rt; found == (None, 6, Some(OutPhase::Closed), Some((1, 0))));
-    Ok(())
+fn a_last_acknowledgement_beside_a_message(rt: HostRuntime) {
+    let known = (None, 6, Some(OutPhase::Closed), Some((1, 0)));
+    assert!(rt; at_second(rt.alloc(), last_beside) == Ok(known));
 }
 
 const FAULT: &[u8] = b"<a:To>http://node1.example/</a:To>\
@@ -201,9 +197,8 @@ fn named_both(peer: &mut Peer) -> Result<(Option<OutPhase>, Option<OutPhase>), N
 }
 
 #[test]
-fn a_fault_that_names_two_sequences(rt: HostRuntime) -> Result<(), Fail> {
+fn a_fault_that_names_two_sequences(rt: HostRuntime) {
     let (open, failed) = (Some(OutPhase::Open), Some(OutPhase::Failed));
-    assert!(rt; at_first(rt.alloc(), named_strangely)? == (open, failed));
-    assert!(rt; at_first(rt.alloc(), named_both)? == (failed, open));
-    Ok(())
+    assert!(rt; at_first(rt.alloc(), named_strangely) == Ok((open, failed)));
+    assert!(rt; at_first(rt.alloc(), named_both) == Ok((failed, open)));
 }

@@ -7,10 +7,9 @@ use rm_node::NodeError;
 use rm_sides::destination::InPhase;
 use rm_sides::source::OutPhase;
 use std::alloc::Global;
-use std::test::Fail;
 
 // A call that adds one entry.
-#[derive(Clone, Copy, Debug)]
+#[derive(Clone, Copy)]
 enum Call {
     Create,
     Send,
@@ -134,30 +133,42 @@ const ADDED: [(u8, u64, u64); 16] = [
     (3, 4, 0),
 ];
 
-#[test]
-fn a_call_whose_disk_fails(rt: HostRuntime) -> Result<(), Fail> {
-    for call in &CALLS {
-        for (choice, stop, added) in &ADDED {
-            assert!(rt;
-                stopped(rt.alloc(), *call, *stop, *choice)?
-                    == (Some(NodeError::Disk), true, *added),
-                "{call:?}, choice {choice}, stop {stop}"
-            );
+// How many of these come out so for a call, up to the first that does not.
+fn added_met(alloc: Global, call: Call) -> Result<usize, NodeError> {
+    for (i, (choice, stop, added)) in ADDED.iter().enumerate() {
+        let came = stopped(alloc, call, *stop, *choice)?;
+        if came != (Some(NodeError::Disk), true, *added) {
+            return Ok(i);
         }
     }
-    Ok(())
+    Ok(ADDED.len())
+}
+
+#[test]
+fn a_call_whose_disk_fails(rt: HostRuntime) {
+    for (i, call) in CALLS.iter().enumerate() {
+        let met = added_met(rt.alloc(), *call);
+        assert!(rt; met == Ok(16), "call {i}: {met:?}");
+    }
+}
+
+// The first choice of a crash that doesn't keep the entry of a call at which no device call fails, or 4.
+fn first_lost(alloc: Global, call: Call) -> Result<u8, NodeError> {
+    for choice in 0..4 {
+        if stopped(alloc, call, 5, choice)? != (None, false, 1) {
+            return Ok(choice);
+        }
+    }
+    Ok(4)
 }
 
 // Where no device call fails, the entry is there whatever the crash keeps.
 #[test]
-fn a_call_that_went_well(rt: HostRuntime) -> Result<(), Fail> {
-    for call in &CALLS {
-        for choice in 0..4 {
-            let came = stopped(rt.alloc(), *call, 5, choice)?;
-            assert!(rt; came == (None, false, 1), "{call:?}, choice {choice}");
-        }
+fn a_call_that_went_well(rt: HostRuntime) {
+    for (i, call) in CALLS.iter().enumerate() {
+        let lost = first_lost(rt.alloc(), *call);
+        assert!(rt; lost == Ok(4), "call {i}: {lost:?}");
     }
-    Ok(())
 }
 
 // In which phases a sequence that was asked for and one that was offered with it are.
@@ -188,16 +199,20 @@ fn phases(added: u64) -> Phases {
     }
 }
 
+// How many of the rows come out so, up to the first that does not.
+fn phases_met(alloc: Global) -> Result<usize, NodeError> {
+    for (i, (choice, stop, added)) in ADDED.iter().enumerate() {
+        if stopped_in_two(alloc, *stop, *choice)? != phases(*added) {
+            return Ok(i);
+        }
+    }
+    Ok(ADDED.len())
+}
+
 // Both records are there or none.
 #[test]
-fn two_records_in_one_entry(rt: HostRuntime) -> Result<(), Fail> {
-    for (choice, stop, added) in &ADDED {
-        assert!(rt;
-            stopped_in_two(rt.alloc(), *stop, *choice)? == phases(*added),
-            "choice {choice}, stop {stop}"
-        );
-    }
-    Ok(())
+fn two_records_in_one_entry(rt: HostRuntime) {
+    assert!(rt; phases_met(rt.alloc()) == Ok(16));
 }
 
 // How a call comes out whose last device call fails, how it comes out again, and whether the entries stayed.
@@ -219,12 +234,11 @@ fn tried_twice(alloc: Global, call: Call) -> Result<Twice, NodeError> {
 
 // A call at a node that is down.
 #[test]
-fn a_node_that_is_down(rt: HostRuntime) -> Result<(), Fail> {
+fn a_node_that_is_down(rt: HostRuntime) {
     let known = (Some(NodeError::Disk), Some(NodeError::Down), true);
-    for call in &CALLS {
-        assert!(rt; tried_twice(rt.alloc(), *call)? == known, "{call:?}");
+    for (i, call) in CALLS.iter().enumerate() {
+        assert!(rt; tried_twice(rt.alloc(), *call) == Ok(known), "call {i}");
     }
-    Ok(())
 }
 
 // The device call of this number fails as a node is found again: how that comes out, and how many entries there are as
@@ -245,18 +259,23 @@ fn found_twice(alloc: Global, stop: u64, choice: u8) -> Result<Found, NodeError>
     find_twice(&mut peer, stop, choice)
 }
 
-// Mounting syncs, asks for the length and reads.
-#[test]
-fn a_mount_whose_disk_fails(rt: HostRuntime) -> Result<(), Fail> {
-    for choice in 0..4 {
-        for stop in 1..4 {
-            assert!(rt;
-                found_twice(rt.alloc(), stop, choice)? == (Some(MountError::Disk), 3),
-                "choice {choice}, stop {stop}"
-            );
+// The first device call at whose failure finding a node comes out otherwise, or 4.
+fn first_otherwise(alloc: Global, choice: u8) -> Result<u64, NodeError> {
+    for stop in 1..4 {
+        if found_twice(alloc, stop, choice)? != (Some(MountError::Disk), 3) {
+            return Ok(stop);
         }
     }
-    Ok(())
+    Ok(4)
+}
+
+// Mounting syncs, asks for the length and reads.
+#[test]
+fn a_mount_whose_disk_fails(rt: HostRuntime) {
+    for choice in 0..4 {
+        let stop = first_otherwise(rt.alloc(), choice);
+        assert!(rt; stop == Ok(4), "choice {choice}: {stop:?}");
+    }
 }
 
 // How making a node comes out.
@@ -283,15 +302,14 @@ fn stopped_in_making(
 
 // A node is made by three device calls for the empty journal, and four for its first entry.
 #[test]
-fn a_node_that_is_not_made(rt: HostRuntime) -> Result<(), Fail> {
+fn a_node_that_is_not_made(rt: HostRuntime) {
     let known = (Some(NodeError::Disk), Some(MountError::NotAJournal));
     for stop in 1..8 {
         assert!(rt;
-            stopped_in_making(rt.alloc(), stop)? == known,
+            stopped_in_making(rt.alloc(), stop) == Ok(known),
             "stop {stop}"
         );
     }
-    Ok(())
 }
 
 // How finding node 2 comes out where the behaviour that its grant announces is this byte. The grant is the last entry:
@@ -306,10 +324,9 @@ fn announced(alloc: Global, byte: u8) -> Result<Option<MountError>, NodeError> {
 
 // 0 to 2 are the three, and 3 is none.
 #[test]
-fn a_journal_announces_one_of_three(rt: HostRuntime) -> Result<(), Fail> {
+fn a_journal_announces_one_of_three(rt: HostRuntime) {
     let no_node = Some(MountError::NotAJournal);
     for (byte, known) in [(0, None), (1, None), (2, None), (3, no_node)] {
-        assert!(rt; announced(rt.alloc(), byte)? == known, "byte {byte}");
+        assert!(rt; announced(rt.alloc(), byte) == Ok(known), "byte {byte}");
     }
-    Ok(())
 }

@@ -5,7 +5,6 @@ use rm_base::Memory;
 use rm_message::FaultKind;
 use rm_node::{NodeError, Reaction};
 use std::alloc::Global;
-use std::test::Fail;
 
 const PAST: &[u8] = b"<r:SequenceAcknowledgement><r:Identifier>urn:s</r:Identifier>\
     <r:AcknowledgementRange Lower=\"1\" Upper=\"2\"/><r:AcknowledgementRange Lower=\"9\" Upper=\"9\"/>\
@@ -48,11 +47,10 @@ fn past_taken(
 }
 
 #[test]
-fn an_acknowledgement_past_what_was_accepted(rt: HostRuntime) -> Result<(), Fail> {
+fn an_acknowledgement_past_what_was_accepted(rt: HostRuntime) {
     let invalid = Some(FaultKind::InvalidAcknowledgement);
-    assert!(rt; at_first(rt.alloc(), entries_of_four)? == 7);
-    assert!(rt; at_first(rt.alloc(), past_taken)? == (invalid, 7, Some((0, 4))));
-    Ok(())
+    assert!(rt; at_first(rt.alloc(), entries_of_four) == Ok(7));
+    assert!(rt; at_first(rt.alloc(), past_taken) == Ok((invalid, 7, Some((0, 4)))));
 }
 
 // Whether the reply, and nothing else, is this text.
@@ -94,9 +92,8 @@ fn gives_back(peer: &mut Peer) -> Result<bool, NodeError> {
 }
 
 #[test]
-fn an_invalid_acknowledgement_is_given_back(rt: HostRuntime) -> Result<(), Fail> {
-    assert!(rt; at_first(rt.alloc(), gives_back)?);
-    Ok(())
+fn an_invalid_acknowledgement_is_given_back(rt: HostRuntime) {
+    assert!(rt; at_first(rt.alloc(), gives_back) == Ok(true));
 }
 
 // The acknowledgement that node 2 sends to node 1 where it has received nothing.
@@ -123,9 +120,8 @@ fn greatest_taken(peer: &mut Peer) -> Result<(u64, bool, u64), NodeError> {
 }
 
 #[test]
-fn the_greatest_number_of_all(rt: HostRuntime) -> Result<(), Fail> {
-    assert!(rt; at_second(rt.alloc(), greatest_taken)? == (2, true, 2));
-    Ok(())
+fn the_greatest_number_of_all(rt: HostRuntime) {
+    assert!(rt; at_second(rt.alloc(), greatest_taken) == Ok((2, true, 2)));
 }
 
 // A message with this number comes: the verdict, and how many entries there are.
@@ -144,9 +140,8 @@ fn judges_numbers(peer: &mut Peer) -> Result<(bool, bool), NodeError> {
 }
 
 #[test]
-fn numbers_that_are_none(rt: HostRuntime) -> Result<(), Fail> {
-    assert!(rt; at_second(rt.alloc(), judges_numbers)? == (true, true));
-    Ok(())
+fn numbers_that_are_none(rt: HostRuntime) {
+    assert!(rt; at_second(rt.alloc(), judges_numbers) == Ok((true, true)));
 }
 
 // Node 2 grants a sequence, and a message with a further block comes for it.
@@ -174,9 +169,8 @@ fn unknown_taken(peer: &mut Peer) -> Result<(bool, u64), NodeError> {
 }
 
 #[test]
-fn a_block_that_is_not_understood(rt: HostRuntime) -> Result<(), Fail> {
-    assert!(rt; at_second(rt.alloc(), unknown_taken)? == (true, 2));
-    Ok(())
+fn a_block_that_is_not_understood(rt: HostRuntime) {
+    assert!(rt; at_second(rt.alloc(), unknown_taken) == Ok((true, 2)));
 }
 
 const OPTIONAL: &[u8] = b"<x:h xmlns:x=\"urn:x\" S:mustUnderstand=\"0\"/>";
@@ -188,9 +182,8 @@ fn optional_taken(peer: &mut Peer) -> Result<(Option<FaultKind>, u64), NodeError
 }
 
 #[test]
-fn a_block_that_need_not_be_understood(rt: HostRuntime) -> Result<(), Fail> {
-    assert!(rt; at_second(rt.alloc(), optional_taken)? == (None, 3));
-    Ok(())
+fn a_block_that_need_not_be_understood(rt: HostRuntime) {
+    assert!(rt; at_second(rt.alloc(), optional_taken) == Ok((None, 3)));
 }
 
 // The verdict on bytes that are no message, whether there is a reply, and how many entries there are then.
@@ -200,8 +193,7 @@ fn tag_taken(peer: &mut Peer) -> Result<(Option<FaultKind>, bool, u64), NodeErro
 }
 
 #[test]
-fn bytes_that_are_no_message(rt: HostRuntime) -> Result<(), Fail> {
+fn bytes_that_are_no_message(rt: HostRuntime) {
     let refused = Some(FaultKind::NotProfile);
-    assert!(rt; at_first(rt.alloc(), tag_taken)? == (refused, true, 1));
-    Ok(())
+    assert!(rt; at_first(rt.alloc(), tag_taken) == Ok((refused, true, 1)));
 }
