@@ -1,4 +1,4 @@
-//! Tests of `rm_base`, `rm_sides`, `rm_disk` and `timers`, in a module for each module that is tested.
+//! Tests of `rm_base`, `rm_sides`, `rm_disk`, `timers` and `service_turns`, in a module for each module that is tested.
 //! Tests stand in crates of their own, since a crate with tests is proved a second time with them.
 #![tactic(auto)]
 

@@ -1,7 +1,10 @@
-//! A node that runs: its side of the loop of `service_turns`. It serves peers of SOAP 1.2 and its application, one
-//! thing at a time, over its disk and a clock; each turn is calls of the node, in order. It stands on `rm_serve`, on
-//! what the commands of `rm_host` say of calls and of words, and on `service_turns`. The layer above may use of a run
-//! what each turn did and gave back, and what all of them leave on the disk.
+//! A node that runs: the desk of a service, `Station`. It answers peers of SOAP 1.2 and an application, one thing at a
+//! time, over its disk and a clock.
+//! `attend` finds the node on its disk, and takes turns until it is told to stop. Each turn is calls of the node, in
+//! order: contracts say which, what was given back, and what all of them leave on the disk.
+//! - `station`: what is done of each thing that comes;
+//! - `ask`: what an application asks, `Ask`; `said`: what it is told;
+//! - `calls`: the calls of the node, each as one step.
 #![tactic(auto)]
 
 pub mod ask;
