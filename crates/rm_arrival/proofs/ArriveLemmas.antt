@@ -119,11 +119,11 @@ issued-is n q (Some x) e = record {
 }
 
 -- the sequence and whom it was made for
-record IsIncomingFor (r : List Fact) (t : ℕ) (q : Text) : Type 0 where
-  message_id : Text
-  incoming : IsIncoming r t q message_id
+pub record IsIncomingFor (r : List Fact) (t : ℕ) (q : Text) : Type 0 where
+  pub message_id : Text
+  pub incoming : IsIncoming r t q message_id
 
-found-incoming : (r : List Fact) (q : Text) (t : ℕ) → find_incoming r q ≡ Some t → IsIncomingFor r t q
+pub found-incoming : (r : List Fact) (q : Text) (t : ℕ) → find_incoming r q ≡ Some t → IsIncomingFor r t q
 found-incoming r q t e =
     let it = find_from-is (is_incoming (number r) q) 0 (makers r) t e in
     let above : 0 < t = it.above in
@@ -146,7 +146,7 @@ found-incoming r q t e =
 left-at : (x : Node) → Stands x → IsLeft x (records x) x.whole
 left-at x stands = subst (λ z. IsLeftWith (records x) x.whole z (records x) x.whole) (sym stands.up) (refl, refl)
 
-word-at : (w : World) (side : Side) → KeepsAll w → BothStand w
+pub word-at : (w : World) (side : Side) → KeepsAll w → BothStand w
     → KeepsWord (records (node w side)) (node w side).whole (records (node w (other side))) (node w (other side)).whole
 word-at w One keeps stand =
     keeps.one (records w.one) w.one.whole (records w.two) w.two.whole (left-at w.one (stand One))

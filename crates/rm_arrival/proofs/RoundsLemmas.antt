@@ -66,13 +66,13 @@ use Rattle.rm_arrival.proofs.WaitsLemmas.{WaitLaws, none-begun, receive-none, ru
 -- ---- what is no more than filtered
 
 -- a list of which some no longer wait, by records one after the other
-abbrev stills : List (List Fact) → List Wait → List Wait
+abbrev pub stills : List (List Fact) → List Wait → List Wait
 stills [] waits = waits
 stills (r ∷ rs) waits = stills rs (still r waits)
 
-record Evolved (old new : List Wait) : Type 0 where
-  by_ : List (List Fact)
-  are : new ≡ stills by_ old
+pub record Evolved (old new : List Wait) : Type 0 where
+  pub by_ : List (List Fact)
+  pub are : new ≡ stills by_ old
 
 stills-join : (rs qs : List (List Fact)) (waits : List Wait) → stills (rs ++ qs) waits ≡ stills qs (stills rs waits)
 stills-join [] qs waits = refl
@@ -354,12 +354,12 @@ moment-is terms w events fair One = refl
 moment-is terms w events fair Two = refl
 
 -- what waits after a round: what its tick left, but what no longer waits
-record RoundMoves (w v : World) (side : Side) (now : ℕ) : Type 0 where
-  time : ℕ
-  evolved : Evolved (send_all time (first_due (time_at (node w side) now) (node w side).waits) (node w side).waits)
+pub record RoundMoves (w v : World) (side : Side) (now : ℕ) : Type 0 where
+  pub time : ℕ
+  pub evolved : Evolved (send_all time (first_due (time_at (node w side) now) (node w side).waits) (node w side).waits)
       (node v side).waits
 
-round-moves : OnlyHeardIsRecorded → OthersWaitOn → EachMayComeNext → (terms : Terms) (w : World) (events : List Event)
+pub round-moves : OnlyHeardIsRecorded → OthersWaitOn → EachMayComeNext → (terms : Terms) (w : World) (events : List Event)
     → AreTerms terms → IsSound terms w → BothStand w → (fair : IsFair terms w events)
     → AreQuiet (run terms events w).packets fair.numbers → (side : Side)
     → AreExactly (records (node w side)) (node w side).waits

@@ -16,12 +16,13 @@ ghost use Rattle.rm_arrival.specs.Round.{AckEndsTheWait, ArrivesInARound, DueIsS
 ghost use Rattle.rm_arrival.specs.Round.{AckIsTaken, DataIsTaken, FewAreAllEmitted, WaitingHasData};
 ghost use Rattle.rm_arrival.specs.Fair.{ARoundBrings, IsFair};
 ghost use Rattle.rm_arrival.specs.Few.{ARoundBringsAFew};
+ghost use Rattle.rm_arrival.specs.Near.{AcceptedIsNear, AllArrives, EachRunIsNear};
 ghost use Rattle.rm_arrival.specs.Nodes.{ARoundOfNodes, TakesWhole};
 ghost use Rattle.rm_arrival.specs.Round.{WaitsAreTimely};
 ghost use Rattle.rm_arrival.specs.Rounds.{EachHasItsTurn, EachMessageArrives, TwoPassesArrive};
 ghost use Rattle.rm_arrival.specs.Runs.{AFewArrive, EachRunWaitsRight};
 
-use record_batch::snapshot::numbers_are_from_one;
+use record_batch::snapshot::{a_snapshot_knows_all, numbers_are_from_one};
 use rm_protocol::laws::{
     each_record_may_come_next, every_run_keeps_the_word, every_step_keeps_the_agreement,
     only_what_was_heard_is_recorded, records_leave_other_keys, what_begins_waits,
@@ -233,4 +234,51 @@ pub fn two_passes_bring_two_windows()
     numbers_are_from_one();
     front_is_reached();
     union_has_both();
+}
+
+/// In each world of a run no source has more messages without an acknowledgement than a window, and no destination
+/// holds a number that is more than a window past its front.
+pub fn each_run_is_near()
+    ensures { EachRunIsNear }
+{
+    every_step_keeps_the_agreement();
+    only_what_was_heard_is_recorded();
+    numbers_are_from_one();
+    front_is_reached();
+    union_has_both();
+    a_snapshot_knows_all();
+}
+
+/// In each world that a script reaches in which both nodes stand, what a source had accepted is at most two windows
+/// past the front of its destination.
+pub fn what_was_accepted_is_near()
+    ensures { AcceptedIsNear }
+{
+    every_run_keeps_the_word();
+    every_step_keeps_the_agreement();
+    only_what_was_heard_is_recorded();
+    numbers_are_from_one();
+    front_is_reached();
+    union_has_both();
+    a_snapshot_knows_all();
+}
+
+/// From each world that a script reaches in which both nodes stand, whatever was lost, repeated and reordered before
+/// and whoever crashed: all that a source had accepted has arrived after so many fair rounds, where its sequence is
+/// open.
+pub fn all_that_was_accepted_arrives()
+    ensures { AllArrives }
+{
+    every_run_keeps_the_word();
+    every_step_keeps_the_agreement();
+    what_waits_stays_exact();
+    what_waits_is_exact_in_short();
+    what_begins_waits();
+    only_what_was_heard_is_recorded();
+    each_record_may_come_next();
+    records_leave_other_keys();
+    numbers_are_from_one();
+    front_is_reached();
+    union_has_both();
+    a_snapshot_knows_all();
 }
