@@ -99,7 +99,7 @@ numbered-within xs zero x e = absurd (cc)
 numbered-within xs (suc n) x e =
     let there : n < length xs = slice_get-within xs n x (sym (numbered-next xs n) ∙ e) in omega (arith, there)
 
-all-at : {A : Type 0} (P : A → Type 0) (xs : List A) (k : ℕ) (x : A) → AllByRecursion P xs → slice_get xs k ≡ Some x
+pub all-at : {A : Type 0} (P : A → Type 0) (xs : List A) (k : ℕ) (x : A) → AllByRecursion P xs → slice_get xs k ≡ Some x
     → P x
 all-at P [] k x h e = absurd (cc)
 all-at P (y ∷ ys) zero x h e = let same : y ≡ x = cc in subst P same h.0

@@ -21,15 +21,17 @@ use Rattle.rm_protocol.specs.World.{Event, Side, World, node, other, run, start}
 use Rattle.rm_arrival.specs.Fair.{BothStand, moment}
 use Rattle.rm_arrival.specs.Few.{time_at}
 use Rattle.rm_arrival.specs.Near.{AcceptedIsNear, AllArrives, EachRunIsNear, rounds_for}
-use Rattle.rm_arrival.specs.Rounds.{AreEnough, AreTurns, run_rounds}
+use Rattle.rm_arrival.specs.Rounds.{AreEnough, run_rounds}
 use Rattle.rm_arrival.specs.Runs.{HasArrived, WaitsRight}
 use Rattle.rm_arrival.proofs.ArriveLemmas.{EachRunKeeps, each-right, found-incoming, word-at}
 use Rattle.rm_arrival.proofs.BringLemmas.{round-onward}
+use Rattle.rm_arrival.proofs.CalmLemmas.{QuietTurns, calm-at-first, quiet-turns}
 use Rattle.rm_arrival.proofs.EachLemmas.{two-passes}
 use Rattle.rm_arrival.proofs.NearLemmas.{NearLaws}
 use Rattle.rm_arrival.proofs.NearRunLemmas.{run-near, start-near}
 use Rattle.rm_arrival.proofs.OnwardLemmas.{StaysSound, run-sound}
 use Rattle.rm_arrival.proofs.RoundsLemmas.{RoundLaws, round-moves, stills}
+use Rattle.rm_arrival.proofs.SendLemmas.{turns-from}
 use Rattle.rm_arrival.proofs.StartLemmas.{each-sound}
 use Rattle.rm_arrival.proofs.TallyLemmas.{count-most}
 use Rattle.rm_arrival.proofs.ValidLemmas.{sees}
@@ -104,7 +106,7 @@ stills-fewer (r ∷ rs) xs =
     omega (arith, rest, here)
 
 fewer : RoundLaws → (terms : Terms) (rounds : List (List Event)) (w : World) (side : Side) (s u : ℕ) → AreTerms terms
-    → IsSound terms w → BothStand w → ((x : Side) → WaitsRight (node w x)) → AreTurns terms w side s u rounds
+    → IsSound terms w → BothStand w → ((x : Side) → WaitsRight (node w x)) → QuietTurns terms w side s u rounds
     → length (node (run_rounds terms rounds w) side).waits ≤ length (node w side).waits
 fewer laws terms [] w side s u t sound stand right turns = omega arith
 fewer laws terms (round ∷ rounds) w side s u t sound stand right turns =
@@ -126,8 +128,8 @@ fewer laws terms (round ∷ rounds) w side s u t sound stand right turns =
 -- ---- two passes
 
 turns-join : (terms : Terms) (xs ys : List (List Event)) (w : World) (side : Side) (s u : ℕ)
-    → AreTurns terms w side s u (xs ++ ys)
-    → AreTurns terms w side s u xs × AreTurns terms (run_rounds terms xs w) side s u ys
+    → QuietTurns terms w side s u (xs ++ ys)
+    → QuietTurns terms w side s u xs × QuietTurns terms (run_rounds terms xs w) side s u ys
 turns-join terms [] ys w side s u h = (tt, h)
 turns-join terms (x ∷ xs) ys w side s u h =
     let rest = turns-join terms xs ys (run terms x w) side s u h.1 in ((h.0, rest.0), rest.1)
@@ -167,20 +169,22 @@ later-enough : (keys n m : ℕ) → n ≤ m → AreEnough keys n → AreEnough k
 later-enough keys n m le enough = omega (arith, le, enough)
 
 pub all-arrive : RoundLaws → NearLaws → EachRunKeeps → AllArrives
-all-arrive laws near word terms one two t made events rounds stand side s u at turns enough =
+all-arrive laws near word terms one two t made events rounds stand waits side s u at rs enough sends open_ =
     let w = run terms events (start one two) in
+    let sound = each-sound laws.sound terms one two t made events in
+    let turns = turns-from laws.sound terms w.packets rounds w side s u t sound stand at rs sends open_ in
+    let quiet = quiet-turns terms w.packets rounds w side s u t (calm-at-first w waits) turns in
     let keys = length (node w side).waits in
     let n = 6 * (keys - 1) / 64 + 1 in
     let two_ : 2 * n ≤ length rounds = enough in
     let it = part n rounds (omega (arith, two_)) in
     let v = run_rounds terms it.first w in
-    let both = turns-join terms it.first it.second w side s u (subst (λ z. AreTurns terms w side s u z) it.are turns) in
+    let both = turns-join terms it.first it.second w side s u (subst (λ z. QuietTurns terms w side s u z) it.are quiet) in
     let all : length rounds ≡ length it.first + length it.second =
     ap (λ z. length z) it.are ∙ length-append it.first it.second in
     let count = it.count in
     let rest : n ≤ length it.second = omega (arith, two_, all, count) in
     let one_pass : AreEnough keys (length it.first) = subst (λ z. AreEnough keys z) (sym count) (half keys n refl) in
-    let sound = each-sound laws.sound terms one two t made events in
     let right = each-right laws.waits laws.sound terms one two t made events in
     let less = fewer laws terms it.first w side s u t sound stand right both.0 in
     let other_pass : AreEnough (length (node v side).waits) (length it.second) =

@@ -48,10 +48,11 @@ use Rattle.rm_protocol.specs.World.{other, received_by, run, with_clock}
 use Rattle.rm_arrival.specs.Fair.{BothStand, IsFair, IsKept, IsReached, moment}
 use Rattle.rm_arrival.specs.Few.{AllAcked, IsDueAt, time_at}
 use Rattle.rm_arrival.specs.Nodes.{Stands}
-use Rattle.rm_arrival.specs.Rounds.{AreEnough, AreQuiet, AreTurns, IsTurn, NamesNoneMissing, run_rounds}
+use Rattle.rm_arrival.specs.Rounds.{AreEnough, AreQuiet, NamesNoneMissing, run_rounds}
 use Rattle.rm_arrival.specs.Runs.{WaitsRight}
 use Rattle.rm_arrival.proofs.ArriveLemmas.{due-then}
 use Rattle.rm_arrival.proofs.BringLemmas.{round-brings, round-onward, tick-waits, tick_of}
+use Rattle.rm_arrival.proofs.CalmLemmas.{QuietTurn, QuietTurns}
 use Rattle.rm_arrival.proofs.FewLemmas.{stood, waits-else}
 use Rattle.rm_arrival.proofs.MemberLemmas.{filter-join, numbered-longer}
 use Rattle.rm_arrival.proofs.OnwardLemmas.{IsOfRound, Onward, StaysSound, onward-refl, onward-then, run-join}
@@ -537,7 +538,7 @@ record TurnPassed (w v : World) (side : Side) (s i most : ℕ) : Type 0 where
       → (Has (records (node v side)) s (suc i)) ⊎ Placed (node v side).waits (key s (suc i)) (most - 64)
 
 turn-nearer : RoundLaws → (terms : Terms) (w : World) (round : List Event) (side : Side) (s u i most : ℕ)
-    → AreTerms terms → Before terms w side s u i → (turn : IsTurn terms w round side s u)
+    → AreTerms terms → Before terms w side s u i → (turn : QuietTurn terms w round side s u)
     → Placed (node w side).waits (key s (suc i)) most
     → has_key (first_due (time_at (node w side) (moment turn.fair side)) (node w side).waits) (key s (suc i)) ≡ false
     → TurnPassed w (run terms round w) side s i most
@@ -607,7 +608,7 @@ IsUnderWay w side s i rounds =
     (Has (records (node w side)) s (suc i)) ⊎ Waited (node w side).waits (key s (suc i)) rounds
 
 way-on : (terms : Terms) (rounds : List (List Event)) (w v : World) (side : Side) (s u i most : ℕ)
-    → AreTurns terms v side s u rounds → most < 64 * suc (length rounds) → TurnPassed w v side s i most
+    → QuietTurns terms v side s u rounds → most < 64 * suc (length rounds) → TurnPassed w v side s i most
     → IsUnderWay v side s i (length rounds)
 way-on terms [] w v side s u i most turns enough passed =
     absurd (let heavy = passed.heavy in omega (arith, enough, heavy))
@@ -628,7 +629,7 @@ placed-waits x k most exact place =
     (has-there place.front_ place.rest place.w)
 
 in-turn : RoundLaws → (terms : Terms) (rounds : List (List Event)) (w : World) (side : Side) (s u i : ℕ)
-    → AreTerms terms → Before terms w side s u i → AreTurns terms w side s u rounds
+    → AreTerms terms → Before terms w side s u i → QuietTurns terms w side s u rounds
     → IsUnderWay w side s i (length rounds)
     → in_ranges (acked (records (node (run_rounds terms rounds w) side)) s) (suc i) ≡ true
 in-turn laws terms [] w side s u i t it turns (inl has) =
@@ -694,7 +695,7 @@ placed-at-first x k right has =
 
 pub each-in-turn : RoundLaws → (terms : Terms) (w : World) (rounds : List (List Event)) → AreTerms terms
     → IsSound terms w → BothStand w → ((side : Side) → WaitsRight (node w side)) → (side : Side) (s u : ℕ)
-    → IsReached w side s u → AreTurns terms w side s u rounds
+    → IsReached w side s u → QuietTurns terms w side s u rounds
     → AreEnough (length (node w side).waits) (length rounds)
     → (n : ℕ) → n ≤ accepted_count (records (node w side)) s
     → n ≤ front (records (node w (other side))) u + window → AllAcked (run_rounds terms rounds w) side s n
@@ -727,7 +728,7 @@ each-in-turn laws terms w (round ∷ rounds) t sound stand right side s u at tur
 
 -- both nodes stand behind the rounds too, and their records are longer
 pub rounds-onward : RoundLaws → (terms : Terms) (rounds : List (List Event)) (w : World) (side : Side) (s u : ℕ)
-    → BothStand w → AreTurns terms w side s u rounds → Onward w (run_rounds terms rounds w)
+    → BothStand w → QuietTurns terms w side s u rounds → Onward w (run_rounds terms rounds w)
 rounds-onward laws terms [] w side s u stand turns = onward-refl w stand
 rounds-onward laws terms (round ∷ rounds) w side s u stand turns =
     let on = round-onward terms w round stand turns.0.fair in

@@ -133,7 +133,7 @@ none-first : {A : Type 0} (xs ys : List A) → not (is_empty (xs ++ ys)) ≡ fal
 none-first [] ys e = refl
 none-first (x ∷ xs) ys e = absurd (cc (e))
 
-closes-before : (r d : List Fact) (t : ℕ) → is_stopped (r ++ d) t ≡ false → closes r t ≡ []
+pub closes-before : (r d : List Fact) (t : ℕ) → is_stopped (r ++ d) t ≡ false → closes r t ≡ []
 closes-before r d t e =
     let split : closes (r ++ d) t ≡ closes r t ++ closes d t =
     ap (λ xs. at_seq t xs) (flat_map-append close_of r d)
@@ -145,7 +145,7 @@ pub record IsGoing (r : List Fact) (t : ℕ) : Type 0 where
   pub over : (now : ℕ) → is_over r t now ≡ false
   pub ended : (now : ℕ) → is_ended r t now ≡ false
 
-deadline-before : (r d : List Fact) (t : ℕ) (back : Epr) → acks_to r t ≡ Some back
+pub deadline-before : (r d : List Fact) (t : ℕ) (back : Epr) → acks_to r t ≡ Some back
     → deadline_of (maker (r ++ d) t) ≡ None → deadline_of (maker r t) ≡ None
 deadline-before r d t back e none = by_maker (maker r t) refl
   where

@@ -1,16 +1,16 @@
 -- How far a source may be ahead of its destination: what was accepted is never more than two windows past the front.
-use Rattle.std.specs.Prelude.{◌≡◌, ℕ, ◌+◌, ◌-◌, ◌*◌, ◌/◌, ◌≤◌, true, List, length}
+use Rattle.std.specs.Prelude.{◌≡◌, ℕ, ◌+◌, ◌-◌, ◌*◌, ◌/◌, ◌≤◌, true, List, [], ◌∷◌, length}
 use Rattle.rm_base.specs.Limits as limits
 use Rattle.rm_base.specs.NumberSet.{has_number}
 use Rattle.record_batch.specs.Fact.{Fact}
 use Rattle.record_batch.specs.Sequences.Words.{Text}
-use Rattle.record_batch.specs.Sequences.Sources.{accepted_count, unacked}
+use Rattle.record_batch.specs.Sequences.Sources.{accepted_count, is_sending, phase, unacked}
 use Rattle.record_batch.specs.Sequences.Destinations.{front, held}
 use Rattle.rm_protocol.specs.Node.{records}
 use Rattle.rm_protocol.specs.Terms.{AreTerms, Terms}
-use Rattle.rm_protocol.specs.World.{AreMade, Event, Side, node, other}
-use Rattle.rm_arrival.specs.Fair.{BothStand, IsReached}
-use Rattle.rm_arrival.specs.Rounds.{AreTurns, run_rounds}
+use Rattle.rm_protocol.specs.World.{AreMade, Event, Packet, Side, World, node, other, run}
+use Rattle.rm_arrival.specs.Fair.{BothStand, IsFair, IsOpen, IsReached, moment}
+use Rattle.rm_arrival.specs.Rounds.{AreQuiet, NoNackWaits, run_rounds}
 use Rattle.rm_arrival.specs.Runs.{HasArrived, reached_by}
 
 -- no source has more messages without an acknowledgement than a window, and no destination holds a number that is more
@@ -39,14 +39,28 @@ AcceptedIsNear =
 abbrev pub rounds_for : ℕ → ℕ
 rounds_for keys = 2 * (6 * (keys - 1) / 64 + 1)
 
--- From each world that a script reaches in which both nodes stand, all that a source had accepted has arrived after so
--- many fair rounds.
+-- one of several rounds: it is fair, and of the old packets, those from before the rounds, it delivers no Nack; the tick of
+-- the side comes 64 seconds after the last one or later
+pub record IsRound (terms : Terms) (old : List Packet) (w : World) (round : List Event) (side : Side) : Type 0 where
+  pub fair : IsFair terms w round
+  pub quiet : AreQuiet old fair.numbers
+  pub late : (node w side).time + 64000 ≤ moment fair side
+
+-- each of them is one, where it comes
+abbrev pub AreRounds : Terms → List Packet → World → Side → List (List Event) → Type 0
+AreRounds terms old w side [] = Unit {0}
+AreRounds terms old w side (round ∷ rounds) =
+    IsRound terms old w round side × AreRounds terms old (run terms round w) side rounds
+
+-- From each world w that a script reaches, in which both nodes stand: all that source s of a side had accepted has
+-- arrived after so many fair rounds, where in the end the source is open or closing, and its destination t is open and
+-- never expires.
 abbrev pub AllArrives : Type 0
 AllArrives =
     (terms : Terms) (one two : Text) → AreTerms terms → AreMade terms one two → (events : List Event)
-    (rounds : List (List Event)) → BothStand (reached_by terms one two events) → (side : Side) (s t : ℕ)
-    → IsReached (reached_by terms one two events) side s t
-    → AreTurns terms (reached_by terms one two events) side s t rounds
-    → rounds_for (length (node (reached_by terms one two events) side).waits) ≤ length rounds
-    → HasArrived (run_rounds terms rounds (reached_by terms one two events)) side s t
-    (accepted_count (records (node (reached_by terms one two events) side)) s)
+    (rounds : List (List Event)) → let w = reached_by terms one two events in
+    let then = run_rounds terms rounds w in BothStand w → NoNackWaits w → (side : Side) (s t : ℕ)
+    → IsReached w side s t → AreRounds terms w.packets w side rounds
+    → rounds_for (length (node w side).waits) ≤ length rounds
+    → is_sending (phase (records (node then side)) s) ≡ true → IsOpen (records (node then (other side))) t
+    → HasArrived then side s t (accepted_count (records (node w side)) s)

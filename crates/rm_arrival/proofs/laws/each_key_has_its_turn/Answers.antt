@@ -1,4 +1,5 @@
-use Rattle.rm_arrival.proofs.RoundsLemmas.{RoundLaws, each-in-turn}
+use Rattle.rm_arrival.proofs.EachLemmas.{each-turn}
+use Rattle.rm_arrival.proofs.RoundsLemmas.{RoundLaws}
 use Rattle.rm_arrival.proofs.laws.each_key_has_its_turn.Goals as goal
 
 pub returns : goal.returns
@@ -18,4 +19,4 @@ returns c =
       reached = c.front_is_reached.ensures;
       both = c.union_has_both.ensures;
     } in
-    each-in-turn laws
+    each-turn laws

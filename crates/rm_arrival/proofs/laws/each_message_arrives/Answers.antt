@@ -1,4 +1,4 @@
-use Rattle.rm_arrival.proofs.EachLemmas.{each-arrives}
+use Rattle.rm_arrival.proofs.EachLemmas.{message-arrives}
 use Rattle.rm_arrival.proofs.RoundsLemmas.{RoundLaws}
 use Rattle.rm_arrival.proofs.laws.each_message_arrives.Goals as goal
 
@@ -19,4 +19,4 @@ returns c =
       reached = c.front_is_reached.ensures;
       both = c.union_has_both.ensures;
     } in
-    each-arrives laws c.every_run_keeps_the_word.ensures
+    message-arrives laws c.every_run_keeps_the_word.ensures

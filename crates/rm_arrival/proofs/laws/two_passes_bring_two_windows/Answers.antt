@@ -1,4 +1,4 @@
-use Rattle.rm_arrival.proofs.EachLemmas.{two-passes}
+use Rattle.rm_arrival.proofs.EachLemmas.{passes-arrive}
 use Rattle.rm_arrival.proofs.RoundsLemmas.{RoundLaws}
 use Rattle.rm_arrival.proofs.laws.two_passes_bring_two_windows.Goals as goal
 
@@ -19,4 +19,4 @@ returns c =
       reached = c.front_is_reached.ensures;
       both = c.union_has_both.ensures;
     } in
-    two-passes laws c.every_run_keeps_the_word.ensures
+    passes-arrive laws c.every_run_keeps_the_word.ensures
