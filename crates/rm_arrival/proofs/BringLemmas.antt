@@ -20,7 +20,7 @@ use Rattle.wsa_headers.specs.declared.endpoint.Epr.{Epr}
 use Rattle.record_batch.specs.Fact.{Fact, Ended}
 use Rattle.record_batch.specs.Snapshot.Same.{NumbersAreFromOne}
 use Rattle.record_batch.specs.Sequences.Words.{Text}
-use Rattle.record_batch.specs.Sequences.Makers.{Maker, Outgoing, Taken, maker, makers, number}
+use Rattle.record_batch.specs.Sequences.Makers.{Maker, Outgoing, Taken, maker, makers}
 use Rattle.record_batch.specs.Sequences.Sources.{acked, out_ident, payload_at}
 use Rattle.record_batch.specs.Sequences.Destinations.{deadline_of, front, has_end, is_stopped}
 use Rattle.record_batch.specs.Sequences.Find.{acks_to, find_incoming, find_outgoing, peer}

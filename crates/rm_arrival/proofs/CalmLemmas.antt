@@ -1,6 +1,6 @@
 -- What the lines of a round say has no Nack: so it is enough that what was on its way before has none.
-use Rattle.std.proofs.Common.{◌≡◌, ◌⊎◌, ℕ, zero, suc, ◌+◌, ◌-◌, ◌<◌, ◌≤◌, ◌==◌, ◌||◌, max, cond, Bool, true, false, List}
-use Rattle.std.proofs.Common.{[], ◌∷◌, ◌++◌, length, map, filter, refl, sym, ap, ◌∙◌, subst, arith, inl, inr}
+use Rattle.std.proofs.Common.{◌≡◌, ◌⊎◌, ℕ, zero, suc, ◌+◌, ◌≤◌, max, cond, Bool, true, false}
+use Rattle.std.proofs.Common.{List, [], ◌∷◌, ◌++◌, map, filter, refl, sym, ap, ◌∙◌, subst, inl, inr}
 use Rattle.std.proofs.Common.{append-nil, append_assoc}
 use Rattle.std.specs.Prelude.{Option, Some, None, Result, Ok, Err, codes, slice_get}
 use Rattle.std.specs.List.{AllByRecursion}
@@ -23,7 +23,6 @@ use Rattle.rm_sides.specs.declared.source.phase.OutPhase.TheVariants as out
 use Rattle.rm_sides.specs.Destination.Messages.{ranges_onto}
 use Rattle.timers.specs.declared.slots.timers.Key.{Key}
 use Rattle.timers.specs.Keys.Waits.{first_due}
-use Rattle.timers.specs.Pending.Waiting.{Waiting}
 use Rattle.wsa_headers.specs.declared.addressing.Addressing.{Addressing}
 use Rattle.wsa_headers.specs.declared.endpoint.Epr.{Epr}
 use Rattle.record_batch.specs.Fact.{Fact}
@@ -35,13 +34,14 @@ use Rattle.record_batch.specs.Sequences.Find.{acks_to, find_incoming, peer}
 use Rattle.rm_protocol.specs.Addresses.{is_anonymous, place_of, reply_endpoint}
 use Rattle.rm_protocol.specs.Calls.{Answer, block_at, block_by, expired_from, fault_block, judged, message_at}
 use Rattle.rm_protocol.specs.Calls.{messages_at, receive, refusal_of, tick, tick_with, ticked}
-use Rattle.rm_protocol.specs.Messages.{ack_message, block_of, create_request, data_at, data_by, finish_request, kind_of, request_at}
+use Rattle.rm_protocol.specs.Messages.{ack_message, block_of, create_request, data_by, finish_request}
+use Rattle.rm_protocol.specs.Messages.{kind_of}
 use Rattle.rm_protocol.specs.Messages.{request_by}
 use Rattle.rm_protocol.specs.Node.{Node, State, Up, Writing, Compacting, after, after_by, fetched_after, fetched_by}
 use Rattle.rm_protocol.specs.Node.{fetched_message, is_short, node_end, polled_with, records, said_after, said_by}
 use Rattle.rm_protocol.specs.Node.{said_with}
 use Rattle.rm_protocol.specs.PollLemmas.{AllWaiting, IsOfReplies, blocks-all, fetched-all, outs-all, polled_after-all}
-use Rattle.rm_protocol.specs.Polls.{blocks_back, polled_after, polls, with_pending}
+use Rattle.rm_protocol.specs.Polls.{blocks_back, polled_after, polls}
 use Rattle.rm_protocol.specs.Rows.{rows}
 use Rattle.rm_protocol.specs.Said.{Ack, ack_of, ack_to, acks_said, answered, ask_ack, ask_acks, back_blocks}
 use Rattle.rm_protocol.specs.Said.{back_message, create_response, data_acks, data_ident, find_grant_of, finish_response}
@@ -142,37 +142,41 @@ tick-calm terms r at now keys =
       | false ↦ record { outs = messages-calm (r ++ []) keys; fetched = tt }
     ]
 
-to-plain : (o : Option Epr) (block : AckBlock) → NamesNoneMissing block → AllByRecursion (λ (a : Ack). NamesNoneMissing a.1) (ack_to o block)
+-- the acknowledgement says of no number that it is missing
+abbrev AckCalm : Ack → Type 0
+AckCalm ack = NamesNoneMissing ack.1
+
+to-plain : (o : Option Epr) (block : AckBlock) → NamesNoneMissing block → AllByRecursion AckCalm (ack_to o block)
 to-plain None block h = tt
 to-plain (Some to) block h = (h, tt)
 
 of-plain : (r : List Fact) (now : ℕ) (q : Text) (o : Option ℕ)
-    → AllByRecursion (λ (a : Ack). NamesNoneMissing a.1) (ack_of r now q o)
+    → AllByRecursion AckCalm (ack_of r now q o)
 of-plain r now q None = tt
 of-plain r now q (Some s) = to-plain (acks_to r s) (block_of r s q now) (block-plain r s q now)
 
-data-plain : (r : List Fact) (now : ℕ) (o : Option Text) → AllByRecursion (λ (a : Ack). NamesNoneMissing a.1) (data_acks r now o)
+data-plain : (r : List Fact) (now : ℕ) (o : Option Text) → AllByRecursion AckCalm (data_acks r now o)
 data-plain r now None = tt
 data-plain r now (Some q) = of-plain r now q (find_incoming r q)
 
 ask-plain : (r : List Fact) (now : ℕ) (given : List ℕ) (q : Text) (o : Option ℕ)
-    → AllByRecursion (λ (a : Ack). NamesNoneMissing a.1) (ask_ack r now given q o)
+    → AllByRecursion AckCalm (ask_ack r now given q o)
 ask-plain r now given q None = tt
 ask-plain r now given q (Some s) =
-    elim (has_number given s) as (λ b. AllByRecursion (λ (a : Ack). NamesNoneMissing a.1) (cond b [] (ack_of r now q (Some s)))) [
+    elim (has_number given s) as (λ b. AllByRecursion AckCalm (cond b [] (ack_of r now q (Some s)))) [
       | true ↦ tt
       | false ↦ of-plain r now q (Some s)
     ]
 
 asks-plain : (r : List Fact) (now : ℕ) (given : List ℕ) (qs : List Text)
-    → AllByRecursion (λ (a : Ack). NamesNoneMissing a.1) (ask_acks r now given qs)
+    → AllByRecursion AckCalm (ask_acks r now given qs)
 asks-plain r now given [] = tt
 asks-plain r now given (q ∷ qs) =
-    all-join (λ (a : Ack). NamesNoneMissing a.1) (ask_ack r now given q (find_incoming r q))
+    all-join AckCalm (ask_ack r now given q (find_incoming r q))
     (ask_acks r now (given_with (find_incoming r q) given) qs) (ask-plain r now given q (find_incoming r q))
     (asks-plain r now (given_with (find_incoming r q) given) qs)
 
-blocks-plain : (acks : List Ack) → AllByRecursion (λ (a : Ack). NamesNoneMissing a.1) acks
+blocks-plain : (acks : List Ack) → AllByRecursion AckCalm acks
     → AllByRecursion NamesNoneMissing (back_blocks acks)
 blocks-plain [] h = tt
 blocks-plain (ack ∷ acks) h =
@@ -183,7 +187,7 @@ blocks-plain (ack ∷ acks) h =
       | false ↦ rest
     ]
 
-back-calm : (acks : List Ack) → AllByRecursion (λ (a : Ack). NamesNoneMissing a.1) acks
+back-calm : (acks : List Ack) → AllByRecursion AckCalm acks
     → AllByRecursion HasNoNack (back_message acks)
 back-calm [] h = tt
 back-calm (ack ∷ acks) h =
@@ -195,7 +199,7 @@ back-calm (ack ∷ acks) h =
       | false ↦ rest
     ]
 
-own-calm : (acks : List Ack) → AllByRecursion (λ (a : Ack). NamesNoneMissing a.1) acks
+own-calm : (acks : List Ack) → AllByRecursion AckCalm acks
     → AllByRecursion HasNoNack (own_messages acks)
 own-calm [] h = tt
 own-calm (ack ∷ acks) h =
@@ -207,7 +211,7 @@ own-calm (ack ∷ acks) h =
     ]
 
 answered-calm : (ms : List Message) (acks : List Ack) → AllByRecursion HasNoNack ms
-    → AllByRecursion (λ (a : Ack). NamesNoneMissing a.1) acks → AllByRecursion HasNoNack (answered ms acks)
+    → AllByRecursion AckCalm acks → AllByRecursion HasNoNack (answered ms acks)
 answered-calm [] acks h k =
     all-join HasNoNack (back_message acks) (own_messages acks) (back-calm acks k) (own-calm acks k)
 answered-calm (m ∷ ms) acks h k =
@@ -253,7 +257,7 @@ responses-calm r now a b = tt
 said-calm : (r : List Fact) (now : ℕ) (m : Message) → AllByRecursion HasNoNack (said r now m)
 said-calm r now m =
     answered-calm (responses r now m.addressing m.body) (acks_said r now m) (responses-calm r now m.addressing m.body)
-    (all-join (λ (a : Ack). NamesNoneMissing a.1) (data_acks r now (data_ident m.sequence m.body))
+    (all-join AckCalm (data_acks r now (data_ident m.sequence m.body))
     (ask_acks r now (given_with (found_in r (data_ident m.sequence m.body)) []) m.asks)
     (data-plain r now (data_ident m.sequence m.body))
     (asks-plain r now (given_with (found_in r (data_ident m.sequence m.body)) []) m.asks))

@@ -1,16 +1,15 @@
 -- From each world that a script reaches, all that was accepted arrives after enough fair rounds.
-use Rattle.std.proofs.Common.{◌≡◌, ◌⊎◌, ℕ, zero, suc, ◌+◌, ◌-◌, ◌*◌, ◌/◌, ◌<◌, ◌≤◌, cond, not, Bool, true, false, List}
+use Rattle.std.proofs.Common.{◌≡◌, ℕ, zero, suc, ◌+◌, ◌-◌, ◌*◌, ◌/◌, ◌≤◌, cond, not, Bool, true, false, List}
 use Rattle.std.proofs.Common.{[], ◌∷◌, ◌++◌, length, map, filter, refl, sym, ap, ◌∙◌, subst, arith, length-append}
 use Rattle.rm_base.specs.Limits.{window}
-use Rattle.rm_base.specs.NumberSet.{has_number}
 use Rattle.rm_sides.specs.Ranges.Changes.{united}
-use Rattle.rm_sides.specs.Ranges.Ranges.{count_of, in_ranges}
+use Rattle.rm_sides.specs.Ranges.Ranges.{count_of}
 use Rattle.timers.specs.declared.slots.timers.Key.{Key}
 use Rattle.timers.specs.Keys.Waits.{Wait, at_key, emitted, first_due, same_key, send_all, sent, without}
 use Rattle.record_batch.specs.Fact.{Fact}
 use Rattle.record_batch.specs.Snapshot.AckedLemmas.{unions}
 use Rattle.record_batch.specs.Sequences.Sources.{accepted_count, acked}
-use Rattle.record_batch.specs.Sequences.Destinations.{front, held}
+use Rattle.record_batch.specs.Sequences.Destinations.{front}
 use Rattle.rm_protocol.specs.Node.{records}
 use Rattle.rm_protocol.specs.Recorded.{OnlyHeardIsRecorded}
 use Rattle.rm_protocol.specs.Sound.{IsSound}
@@ -20,7 +19,7 @@ use Rattle.rm_protocol.specs.Word.{Matches}
 use Rattle.rm_protocol.specs.World.{Event, Side, World, node, other, run, start}
 use Rattle.rm_arrival.specs.Fair.{BothStand, moment}
 use Rattle.rm_arrival.specs.Few.{time_at}
-use Rattle.rm_arrival.specs.Near.{AcceptedIsNear, AllArrives, EachRunIsNear, rounds_for}
+use Rattle.rm_arrival.specs.Near.{AcceptedIsNear, AllArrives, EachRunIsNear}
 use Rattle.rm_arrival.specs.Rounds.{AreEnough, run_rounds}
 use Rattle.rm_arrival.specs.Runs.{HasArrived, WaitsRight}
 use Rattle.rm_arrival.proofs.ArriveLemmas.{EachRunKeeps, each-right, found-incoming, word-at}
@@ -179,7 +178,8 @@ all-arrive laws near word terms one two t made events rounds stand waits side s 
     let two_ : 2 * n ≤ length rounds = enough in
     let it = part n rounds (omega (arith, two_)) in
     let v = run_rounds terms it.first w in
-    let both = turns-join terms it.first it.second w side s u (subst (λ z. QuietTurns terms w side s u z) it.are quiet) in
+    let both = turns-join terms it.first it.second w side s u
+    (subst (λ z. QuietTurns terms w side s u z) it.are quiet) in
     let all : length rounds ≡ length it.first + length it.second =
     ap (λ z. length z) it.are ∙ length-append it.first it.second in
     let count = it.count in

@@ -1,6 +1,6 @@
--- Of a list of records: no source is more than a window ahead of its acknowledgements, and no destination holds a number
--- that is more than a window past its front. Which records keep that.
-use Rattle.std.proofs.Common.{◌≡◌, ◌⊎◌, ℕ, ◌+◌, ◌-◌, ◌<◌, ◌≤◌, ◌==◌, ◌||◌, ◌&&◌, cond, Bool, true, false, List, []}
+-- Of a list of records: no source is more than a window ahead of its acknowledgements, and no destination holds a
+-- number that is more than a window past its front. Which records keep that.
+use Rattle.std.proofs.Common.{◌≡◌, ◌⊎◌, ℕ, ◌+◌, ◌<◌, ◌≤◌, ◌==◌, ◌||◌, ◌&&◌, cond, Bool, true, false, List, []}
 use Rattle.std.proofs.Common.{◌∷◌, ◌++◌, length, refl, sym, ap, ◌∙◌, subst, arith, inl, inr, append-nil, append_assoc}
 use Rattle.std.proofs.Common.{length-append}
 use Rattle.std.specs.List.{AllByRecursion, flat_map}
@@ -109,7 +109,8 @@ acked-grows both r d s fit proper more proper_ =
 few-one : UnionHasBoth → (r : List Fact) (f : Fact) (s : ℕ) → all_fit [] r ≡ true → HaveProper r
     → all_fit [] (r ++ f ∷ []) ≡ true → HaveProper (r ++ f ∷ []) → MayFollow r f → unacked r s ≤ window
     → unacked (r ++ f ∷ []) s ≤ window
-few-one both r f s fit proper more proper_ follows few = by_fact f follows (acked-grows both r (f ∷ []) s fit proper more proper_)
+few-one both r f s fit proper more proper_ follows few =
+    by_fact f follows (acked-grows both r (f ∷ []) s fit proper more proper_)
   where
     still_ : (g : Fact) → dropped_of s g ≡ [] → accepted_of s g ≡ []
         → count_of (united [] (acked r s)) ≤ count_of (united [] (acked (r ++ g ∷ []) s))
@@ -253,7 +254,8 @@ all-near laws r (f ∷ d) fit proper follows h =
     let fit_ : all_fit [] ((r ++ f ∷ []) ++ d) ≡ true = subst (λ z. all_fit [] z ≡ true) (sym same) fit in
     let proper_ : HaveProper ((r ++ f ∷ []) ++ d) = subst HaveProper (sym same) proper in
     subst IsNear same (all-near laws (r ++ f ∷ []) d fit_ proper_ follows.1
-    (one-near laws r f (fit-first [] r (f ∷ d) fit) (all-front HasProper r (f ∷ d) proper) (fit-first [] (r ++ f ∷ []) d fit_)
+    (one-near laws r f (fit-first [] r (f ∷ d) fit) (all-front HasProper r (f ∷ d) proper)
+    (fit-first [] (r ++ f ∷ []) d fit_)
     (all-front HasProper (r ++ f ∷ []) d proper_) follows.0 h))
 
 pub short-near : NearLaws → (r : List Fact) → all_fit [] r ≡ true → HaveProper r → IsNear r → IsNear (snapshot r)

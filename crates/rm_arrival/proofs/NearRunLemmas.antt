@@ -1,6 +1,6 @@
 -- In each world of a run both nodes are near: what each call adds keeps it, and so do a crash and a list written anew.
-use Rattle.std.proofs.Common.{◌≡◌, ℕ, ◌+◌, ◌-◌, ◌<◌, ◌≤◌, ◌==◌, ◌&&◌, max, nat_le, nat_lt, not, cond, Bool, true, false}
-use Rattle.std.proofs.Common.{List, [], ◌∷◌, ◌++◌, length, refl, sym, ap, ◌∙◌, subst, arith}
+use Rattle.std.proofs.Common.{◌≡◌, ℕ, ◌+◌, ◌<◌, ◌≤◌, ◌&&◌, max, nat_le, nat_lt, not, cond, Bool, true, false}
+use Rattle.std.proofs.Common.{List, [], ◌∷◌, ◌++◌, length, refl, sym, ◌∙◌, subst, arith}
 use Rattle.std.specs.Prelude.{Option, Some, None, Result, Ok, Err}
 use Rattle.std.specs.List.{AllByRecursion}
 use Rattle.std.proofs.lemmas.Bool.Decides.{nat_tests}
@@ -50,7 +50,8 @@ use Rattle.rm_protocol.specs.Node.{Node, State, Up, Writing, Compacting, after, 
 use Rattle.rm_protocol.specs.Node.{mounted, node_end, records, records_in, with_batch, written, entries_left}
 use Rattle.rm_protocol.specs.Polls.{poll, polls}
 use Rattle.rm_protocol.specs.Recorded.{OnlyHeardIsRecorded}
-use Rattle.rm_protocol.specs.Rows.{ack_at, ack_row, ack_rows, body_row, data_row, data_row_at, final_at, final_row, ranges_of, rows}
+use Rattle.rm_protocol.specs.Rows.{ack_at, ack_row, ack_rows, body_row, data_row, data_row_at, final_at}
+use Rattle.rm_protocol.specs.Rows.{final_row, ranges_of, rows}
 use Rattle.rm_protocol.specs.Sound.{IsSound}
 use Rattle.rm_protocol.specs.Terms.{AreTerms, Terms}
 use Rattle.rm_protocol.specs.Verdict.{has_room, verdict}
@@ -237,10 +238,11 @@ final-none block r = at (find_outgoing r block.ident) block.last
     at None true = tt
     at None false = tt
     at (Some s) false = tt
-    at (Some s) true = elim (is_sending (phase r s)) as (λ b. AllByRecursion BringsNone (cond b (ClosedOut s ∷ []) [])) [
-      | true ↦ (tt, tt)
-      | false ↦ tt
-    ]
+    at (Some s) true =
+        elim (is_sending (phase r s)) as (λ b. AllByRecursion BringsNone (cond b (ClosedOut s ∷ []) [])) [
+          | true ↦ (tt, tt)
+          | false ↦ tt
+        ]
 
 acks-none : (blocks : List AckBlock) (r : List Fact) → AllByRecursion BringsNone (ack_rows blocks r)
 acks-none [] r = tt
@@ -392,7 +394,8 @@ mounted-near laws x kept now later h = record { here = by_state x.state kept h.n
         subst IsNear (sym there) (all-near laws (records x) d
         (subst (λ r. all_fit [] r ≡ true) there right.fit) (subst HaveProper there right.proper) next h.here)
     by_state (Compacting at) true next right =
-        subst IsNear (sym (records-alone (snapshot (records x)))) (short-near laws (records x) now.fit now.proper h.here)
+        subst IsNear (sym (records-alone (snapshot (records x))))
+        (short-near laws (records x) now.fit now.proper h.here)
     by_state (Writing d) false next right = h.here
     by_state (Compacting at) false next right = h.here
     by_state Up true next right = h.here
@@ -412,10 +415,11 @@ compact-near laws terms x now h = by_state x.state refl
     by_state : (z : State) → x.state ≡ z → StaysNear (compacted_by terms x z)
     by_state Up up =
         elim (may_compact terms x) as (λ b. StaysNear (cond b (rewritten terms x) x)) [
-          | true ↦ elim (is_short 5 x.fuse) as (λ b. StaysNear (cond b (stops_compacting terms x) (with_list terms x))) [
-            | true ↦ record { here = h.here; next = tt }
-            | false ↦ listed up
-          ]
+          | true ↦ elim (is_short 5 x.fuse) as (λ b. StaysNear
+              (cond b (stops_compacting terms x) (with_list terms x))) [
+                | true ↦ record { here = h.here; next = tt }
+                | false ↦ listed up
+              ]
           | false ↦ h
         ]
     by_state (Writing d) up = h

@@ -360,8 +360,8 @@ pub record RoundMoves (w v : World) (side : Side) (now : ℕ) : Type 0 where
   pub evolved : Evolved (send_all time (first_due (time_at (node w side) now) (node w side).waits) (node w side).waits)
       (node v side).waits
 
-pub round-moves : OnlyHeardIsRecorded → OthersWaitOn → EachMayComeNext → (terms : Terms) (w : World) (events : List Event)
-    → AreTerms terms → IsSound terms w → BothStand w → (fair : IsFair terms w events)
+pub round-moves : OnlyHeardIsRecorded → OthersWaitOn → EachMayComeNext → (terms : Terms) (w : World)
+    (events : List Event) → AreTerms terms → IsSound terms w → BothStand w → (fair : IsFair terms w events)
     → AreQuiet (run terms events w).packets fair.numbers → (side : Side)
     → AreExactly (records (node w side)) (node w side).waits
     → RoundMoves w (run terms events w) side (moment fair side)

@@ -1,7 +1,7 @@
 -- A sequence that sends, or is open, at the end of rounds did so before each of them.
-use Rattle.std.proofs.Common.{◌≡◌, ℕ, ◌+◌, ◌==◌, ◌&&◌, not, cond, Bool, true, false, List, [], ◌∷◌, ◌++◌, refl, sym, ap}
+use Rattle.std.proofs.Common.{◌≡◌, ℕ, ◌+◌, ◌==◌, not, cond, true, false, List, [], ◌∷◌, ◌++◌, refl, sym, ap}
 use Rattle.std.proofs.Common.{◌∙◌, subst, append-nil, append_assoc}
-use Rattle.std.specs.Prelude.{Option, Some, None}
+use Rattle.std.specs.Prelude.{Some}
 use Rattle.std.specs.List.{flat_map}
 use Rattle.std.proofs.lemmas.Bool.{and_parts, eqb-true}
 use Rattle.std.proofs.lemmas.List.Concat.{flat_map-append}
@@ -14,7 +14,6 @@ use Rattle.record_batch.specs.Sequences.Words.{Text, at_seq, last_or}
 use Rattle.record_batch.specs.Sequences.GatherLemmas.{at_seq-append, last_or-append}
 use Rattle.record_batch.specs.Sequences.Makers.{counter, maker}
 use Rattle.record_batch.specs.Sequences.Sources.{first_phase, is_sending, mark_of, marks, out_ident, phase}
-use Rattle.record_batch.specs.Sequences.Destinations.{closes, deadline_of, is_stopped}
 use Rattle.record_batch.specs.Sequences.Find.{acks_to}
 use Rattle.record_batch.specs.Sequences.Fits.{all_fit, fits, follows, follows_at, is_outgoing_side}
 use Rattle.rm_protocol.specs.Node.{records}
@@ -150,8 +149,9 @@ turns-from law terms old (round ∷ rounds) u side s t are sound stand at rs sen
         fair = rs.0.fair;
         quiet = rs.0.quiet;
         late = rs.0.late;
-        sends = sends-before (records (node u side)) mine.0 s at.ident (fit-behind [] (records (node u side)) mine.0 fit)
-            at.known (subst (λ z. is_sending (phase z s) ≡ true) mine.1 sends);
+        sends = sends-before (records (node u side)) mine.0 s at.ident
+            (fit-behind [] (records (node u side)) mine.0 fit) at.known
+            (subst (λ z. is_sending (phase z s) ≡ true) mine.1 sends);
         open_ = open-before (records (node v (other side))) theirs.0 t at_.back at_.knows
             (subst (λ z. IsOpen z t) theirs.1 open_);
       },

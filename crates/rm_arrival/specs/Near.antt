@@ -39,8 +39,8 @@ AcceptedIsNear =
 abbrev pub rounds_for : ℕ → ℕ
 rounds_for keys = 2 * (6 * (keys - 1) / 64 + 1)
 
--- one of several rounds: it is fair, and of the old packets, those from before the rounds, it delivers no Nack; the tick of
--- the side comes 64 seconds after the last one or later
+-- one of several rounds: it is fair, and of the old packets, those from before the rounds, it delivers no Nack; the
+-- tick of the side comes 64 seconds after the last one or later
 pub record IsRound (terms : Terms) (old : List Packet) (w : World) (round : List Event) (side : Side) : Type 0 where
   pub fair : IsFair terms w round
   pub quiet : AreQuiet old fair.numbers

@@ -36,9 +36,9 @@ AreQuiet packets numbers =
 abbrev pub NoNackWaits : World → Type 0
 NoNackWaits w = (side : Side) → AllWaiting HasNoNack (node w side).polled
 
--- One of several rounds: it is fair, and of the old packets, those from before the rounds, it delivers no Nack; its ticks
--- come 64 seconds after the last ones or later; source s of the side sends when it begins, and destination t of the other
--- side is open when it ends.
+-- One of several rounds: it is fair, and of the old packets, those from before the rounds, it delivers no Nack; the
+-- tick of the side comes 64 seconds after the last one or later; source s of the side sends when it begins, and
+-- destination t of the other side is open when it ends.
 pub record IsTurn (terms : Terms) (old : List Packet) (w : World) (round : List Event) (side : Side) (s t : ℕ)
     : Type 0 where
   pub fair : IsFair terms w round
@@ -94,8 +94,8 @@ TwoPassesArrive =
     → IsReached (reached_by terms one two events) side s t
     → AreTurns terms (reached_by terms one two events).packets (reached_by terms one two events) side s t first
     → AreEnough (length (node (reached_by terms one two events) side).waits) (length first)
-    → AreTurns terms (reached_by terms one two events).packets (run_rounds terms first (reached_by terms one two events))
-    side s t second
+    → AreTurns terms (reached_by terms one two events).packets
+    (run_rounds terms first (reached_by terms one two events)) side s t second
     → AreEnough (length (node (run_rounds terms first (reached_by terms one two events)) side).waits) (length second)
     → (n : ℕ) → n ≤ accepted_count (records (node (reached_by terms one two events) side)) s
     → n ≤ front (records (node (reached_by terms one two events) (other side))) t + 2 * limits.window

@@ -18,6 +18,7 @@ ghost use Rattle.rm_arrival.specs.Fair.{ARoundBrings, IsFair};
 ghost use Rattle.rm_arrival.specs.Few.{ARoundBringsAFew};
 ghost use Rattle.rm_arrival.specs.Near.{AcceptedIsNear, AllArrives, EachRunIsNear};
 ghost use Rattle.rm_arrival.specs.Nodes.{ARoundOfNodes, TakesWhole};
+ghost use Rattle.rm_arrival.specs.Plain.{NoEndIsSaid};
 ghost use Rattle.rm_arrival.specs.Round.{WaitsAreTimely};
 ghost use Rattle.rm_arrival.specs.Rounds.{EachHasItsTurn, EachMessageArrives, TwoPassesArrive};
 ghost use Rattle.rm_arrival.specs.Runs.{AFewArrive, EachRunWaitsRight};
@@ -282,3 +283,9 @@ pub fn all_that_was_accepted_arrives()
     union_has_both();
     a_snapshot_knows_all();
 }
+
+/// Of a sequence that is open a tick says no CloseSequence and no TerminateSequence, and what is said to a message
+/// without a verdict has no final acknowledgement of it.
+pub fn no_end_is_said_of_what_is_open()
+    ensures { NoEndIsSaid }
+{}
