@@ -32,3 +32,7 @@ with_one_lost = played (opening (Send One 1 (7 ∷ []) ∷ []))
 -- a fair round then: the tick says the message again, and the answer comes
 abbrev pub a_fair_round : List Event
 a_fair_round = Tick One 64000 ∷ Tick Two 64000 ∷ Deliver 4 ∷ Deliver 5 ∷ []
+
+-- and one in which nothing is left to be said
+abbrev pub a_quiet_round : List Event
+a_quiet_round = Tick One 128000 ∷ Tick Two 128000 ∷ []

@@ -1,5 +1,5 @@
 //! Laws of arrival.
-ghost use Rattle.std.specs.Prelude.{◌≡◌, [], Some, codes, false, true};
+ghost use Rattle.std.specs.Prelude.{◌≡◌, ◌∷◌, [], Some, codes, false, length, true};
 ghost use Rattle.record_batch.specs.Sequences.Destinations.{is_over};
 ghost use Rattle.record_batch.specs.Sequences.Find.{acks_to, find_incoming, plain_endpoint};
 ghost use Rattle.record_batch.specs.Sequences.Fits.{all_fit};
@@ -8,19 +8,20 @@ ghost use Rattle.record_batch.specs.Sequences.Sources.{acked};
 ghost use Rattle.rm_protocol.specs.Examples.{example_terms};
 ghost use Rattle.rm_protocol.specs.Node.{records};
 ghost use Rattle.rm_protocol.specs.Waiting.{is_waiting, key};
-ghost use Rattle.rm_protocol.specs.World.{run};
+ghost use Rattle.rm_protocol.specs.World.{One, run};
 ghost use Rattle.rm_sides.specs.Ranges.Ranges.{in_ranges};
-ghost use Rattle.rm_arrival.specs.Examples.{a_fair_round, a_waiting_source, an_open_destination, with_one_lost};
+ghost use Rattle.rm_arrival.specs.Examples.{a_fair_round, a_quiet_round, a_waiting_source};
+ghost use Rattle.rm_arrival.specs.Examples.{an_open_destination, with_one_lost};
 ghost use Rattle.rm_arrival.specs.Requests.{RequestIsSaid, ResponsesEnd, WaitingHasRequest};
 ghost use Rattle.rm_arrival.specs.Round.{AckEndsTheWait, ArrivesInARound, DueIsSaid, HeldIsAcked, WaitEndsForGood};
 ghost use Rattle.rm_arrival.specs.Round.{AckIsTaken, DataIsTaken, FewAreAllEmitted, WaitingHasData};
 ghost use Rattle.rm_arrival.specs.Fair.{ARoundBrings, IsFair};
 ghost use Rattle.rm_arrival.specs.Few.{ARoundBringsAFew};
-ghost use Rattle.rm_arrival.specs.Near.{AcceptedIsNear, AllArrives, EachRunIsNear};
+ghost use Rattle.rm_arrival.specs.Near.{AcceptedIsNear, AllArrives, AreRounds, EachRunIsNear, rounds_for};
 ghost use Rattle.rm_arrival.specs.Nodes.{ARoundOfNodes, TakesWhole};
 ghost use Rattle.rm_arrival.specs.Plain.{NoEndIsSaid};
 ghost use Rattle.rm_arrival.specs.Round.{WaitsAreTimely};
-ghost use Rattle.rm_arrival.specs.Rounds.{EachHasItsTurn, EachMessageArrives, TwoPassesArrive};
+ghost use Rattle.rm_arrival.specs.Rounds.{EachHasItsTurn, EachMessageArrives, NoNackWaits, TwoPassesArrive};
 ghost use Rattle.rm_arrival.specs.Runs.{AFewArrive, EachRunWaitsRight};
 
 use record_batch::snapshot::{a_snapshot_knows_all, numbers_are_from_one};
@@ -106,6 +107,15 @@ pub fn a_message_that_waits()
 pub fn a_round_that_is_fair()
     ensures fair { IsFair example_terms with_one_lost a_fair_round }
     ensures acked { in_ranges (acked (records (run example_terms a_fair_round with_one_lost).one) 1) 1 ≡ true }
+{}
+
+/// The rounds that bring all can be: after a message was lost a fair round brings it, and one more, in which nothing is
+/// said, is fair. Two are enough for one key, and no Nack waits.
+pub fn rounds_that_bring_all()
+    ensures rounds { AreRounds example_terms with_one_lost.packets with_one_lost One
+        (a_fair_round ∷ a_quiet_round ∷ []) }
+    ensures enough { rounds_for (length with_one_lost.one.waits) ≡ 2 }
+    ensures waits { NoNackWaits with_one_lost }
 {}
 
 /// What waits is due within 64 seconds of a node's time, after a mount and after each call: a tick 64 seconds after the
