@@ -48,5 +48,8 @@ fn played(rt: &HostRuntime, words: &[Blob]) -> u8 {
         &mut host,
     );
     explain(rt, status, host.disk.last_fault(), host.link.last_fault());
+    if status == End::Usage.status() {
+        program_words::tell(rt, rt.alloc(), words);
+    }
     status
 }

@@ -27,5 +27,9 @@ fn played(rt: &HostRuntime, words: &[Blob]) -> u8 {
         two: MemDisk::new(rt.alloc()),
         wire: MemWire::new(rt.alloc()),
     };
-    run(rt.alloc(), words, &mut input, &mut out, &mut stage)
+    let status = run(rt.alloc(), words, &mut input, &mut out, &mut stage);
+    if status == End::Usage.status() {
+        program_words::tell(rt, rt.alloc(), words);
+    }
+    status
 }

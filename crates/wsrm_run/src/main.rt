@@ -12,7 +12,7 @@ mod words;
 use events::{started, stopped};
 use http_endpoint::Media;
 use rm_base::words::{texts_given, words_behind};
-use rm_base::{Memory, StdClock, StdSink, write_all};
+use rm_base::{Blob, Memory, StdClock, StdSink, write_all};
 use rm_disk::ReadDisk;
 use rm_disk::file::FileDisk;
 use rm_edge::{Edge, Peers, PeersError, peers_in};
@@ -34,16 +34,21 @@ const FAREWELL: u64 = 5000;
 
 fn main(rt: HostRuntime) -> ExitCode {
     let status = match texts_given(&rt) {
-        Ok(given) => match running_of(words_behind(given.as_slice())) {
-            Some(running) => locked(&rt, running),
-            None => {
-                print(&rt, b"usage: wsrm run LISTEN GRANT\n");
-                End::Usage.status()
-            }
-        },
+        Ok(given) => obeyed(&rt, words_behind(given.as_slice())),
         Err(Memory) => End::Memory.status(),
     };
     ExitCode::from(status)
+}
+
+fn obeyed(rt: &HostRuntime, words: &[Blob]) -> u8 {
+    match running_of(words) {
+        Some(running) => locked(rt, running),
+        None => {
+            print(rt, b"usage: wsrm run LISTEN GRANT\n");
+            program_words::tell_of(rt, rt.alloc(), "run", words);
+            End::Usage.status()
+        }
+    }
 }
 
 fn print(rt: &HostRuntime, text: &[u8]) {
