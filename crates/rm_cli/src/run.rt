@@ -1,8 +1,8 @@
 //! One run for all commands, over any input and output, any stage, any disk, link and clock.
 ghost use Rattle.std.specs.Prelude.{◌≡◌, ◌⊎◌, false, true};
 ghost use Rattle.rm_command.specs.Edge.{edge_of};
-ghost use Rattle.rm_command.specs.Run.{AsksReplay, AsksSoak, HasStatus, Runs};
-ghost use Rattle.rm_command.specs.Stage.{KeepsLooseAt, KeepsWordAt, staged_of};
+ghost use Rattle.rm_command.specs.Run.{AsksReplay, AsksSoak, HasStatus, IsAskedFor, Runs};
+ghost use Rattle.rm_command.specs.Stage.{KeepsWordAt, staged_of};
 ghost use Rattle.rm_command.specs.Status.{status_of};
 ghost use Rattle.rm_command.specs.declared.end.End.{End as AnEnd};
 ghost use Rattle.rm_host.specs.Doings.{IsObeyed, world_of};
@@ -31,11 +31,8 @@ pub fn run<S: Source, K: Sink, M: CrashDisk, W: Wire, D: ReadDisk, L: Link, C: C
     requires fresh { IsFresh (scene_of M.told W.packets stage.old) }
 
     // The headline, over every input and output, over every two disks and every wire.
-    ensures word { AsksReplay words.now ⊎ AsksSoak words.now → KeepsWordAt result
-        (staged_of M.told W.packets stage.old) (staged_of M.told W.packets stage.new) }
-
-    // Beside it, what is said of the sequences that are delivered as their messages come.
-    ensures loose { AsksReplay words.now ⊎ AsksSoak words.now → KeepsLooseAt result
+    ensures word { AsksReplay words.now ⊎ AsksSoak words.now
+        → KeepsWordAt (IsAskedFor words.now (S.told input.old).left) result
         (staged_of M.told W.packets stage.old) (staged_of M.told W.packets stage.new) }
 
     // What was done by words that are none of a node's, and which status comes of the bytes that the input tells.

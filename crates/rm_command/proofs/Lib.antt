@@ -1,5 +1,6 @@
 pub mod AlternativesLemmas
 pub mod CheckLemmas
+pub mod KeptLemmas
 pub mod PolicyLemmas
 pub mod ReadingLemmas
 pub mod SoakLemmas

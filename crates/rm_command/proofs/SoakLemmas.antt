@@ -1,5 +1,5 @@
 -- What follows from the words of a soak, and from how it ended.
-use Rattle.std.proofs.Common.{◌≡◌, ◌≢◌, ℕ, List, [], ◌∷◌, codes, decimal, Option, None, Some}
+use Rattle.std.proofs.Common.{◌≡◌, ℕ, List, [], ◌∷◌, codes, decimal, Option, None, Some}
 use Rattle.std.proofs.Common.{arith, refl, sym, subst, ◌∙◌, inl, inr, append-nil}
 use Rattle.std.proofs.lemmas.Fmt.{decimal_injective}
 use Rattle.std.specs.Io.KnownBytes.{Appends}
@@ -8,8 +8,7 @@ use Rattle.rm_command.specs.Edge.{Edge, KeepsOutput, Side, WasBegun}
 use Rattle.rm_command.specs.Filter.{EndsWriting}
 use Rattle.rm_command.specs.Replay.{EndsSoak, IsReportOf, IsSoakStatus}
 use Rattle.rm_command.specs.Run.{AsksSoakOf, Runs, RunsSoak}
-use Rattle.rm_replay.specs.Shows.{Scene}
-use Rattle.rm_command.specs.Stage.{KeepsAt, Staged}
+use Rattle.rm_command.specs.Stage.{Staged}
 use Rattle.rm_command.specs.Status.{status_of}
 use Rattle.rm_command.specs.declared.end.End.{End}
 use Rattle.rm_command.specs.declared.end.End.TheVariants.{Done, Usage, BadLine, ReadFault, WriteFault, TooLong}
@@ -18,7 +17,7 @@ use Rattle.rm_script.specs.Soak.Soak.{soak_script}
 use Rattle.rm_script.specs.Soak.Summary.{summary_of}
 
 -- the words of a soak name one number
-one_number : (words : List (List ℕ)) (m n : ℕ) → AsksSoakOf words m → AsksSoakOf words n → m ≡ n
+pub one_number : (words : List (List ℕ)) (m n : ℕ) → AsksSoakOf words m → AsksSoakOf words n → m ≡ n
 one_number words m n this that =
     let same : codes "soak" ∷ decimal m ∷ [] ≡ codes "soak" ∷ decimal n ∷ [] = sym this.1 ∙ that.1 in
     decimal_injective m n (omega (arith, this.0)) (omega (arith, that.0)) (cc same)
@@ -75,24 +74,3 @@ begun_not told text = (0, omega arith, kept told.held)
     kept : (held : Option (List ℕ)) → Appends held held []
     kept None = tt
     kept (Some bytes) = sym (append-nil bytes)
-
--- what is kept, where it holds of the stage and a text was written, or was not
-pub kept_at : {T : Type 0} (Keep : Scene → Type 0) (end : End) (text : List ℕ) (out out_after : Stream)
-    (old new : Staged T) → EndsWriting text end out out_after → Keep new.scene → KeepsAt Keep (status_of end) old new
-kept_at Keep end text out out_after old new ends kept = record {
-  done = λ e. kept;
-  unwritten = λ e. kept;
-  short = λ e. inr (inr kept);
-  other = none_other end ends;
-}
-  where
-    none_other : (end : End) → EndsWriting text end out out_after → status_of end ≢ 0 → status_of end ≢ 5
-        → status_of end ≢ 10 → new ≡ old
-    none_other Done ends a b c = absurd (a refl)
-    none_other Usage ends a b c = absurd ends
-    none_other (BadLine line) ends a b c = absurd ends
-    none_other ReadFault ends a b c = absurd ends
-    none_other WriteFault ends a b c = absurd (b refl)
-    none_other TooLong ends a b c = absurd ends
-    none_other (Refused fault) ends a b c = absurd ends
-    none_other Memory ends a b c = absurd (c refl)

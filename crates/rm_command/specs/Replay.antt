@@ -9,7 +9,7 @@ use Rattle.rm_script.specs.Report.Exits as exits
 use Rattle.rm_script.specs.declared.event.Event.{Event}
 use Rattle.rm_script.specs.Script.{lines_of, IsScript, IsFirstBad}
 use Rattle.rm_replay.specs.Net.{AreOfNet}
-use Rattle.rm_replay.specs.Played.{IsUnmade, Played, Ran, RanShort, Story}
+use Rattle.rm_replay.specs.Played.{Played, Ran, RanCut, Story}
 use Rattle.rm_replay.specs.Shows.{Scene}
 use Rattle.rm_script.specs.Soak.Soak.{soak_script}
 use Rattle.rm_script.specs.Soak.Summary.{summary_of}
@@ -20,9 +20,10 @@ use Rattle.rm_command.specs.Edge.{Edge, Side, WasBegun, WasWritten}
 use Rattle.rm_command.specs.Filter.{EndsFilter, IsFilterStatus}
 use Rattle.rm_command.specs.Stage.{Staged}
 
--- the bytes are a script, all its lines were played by the protocol, this is the report, and what each source accepted
--- is what it says was sent; and at each moment of the script a delivered message that is new is recorded by its line,
--- and released where it closes the gap or the sequence is loose
+-- the bytes are a script, all its lines were played by the protocol, this is the report, the disks keep the word by all
+-- that the nodes of that run ever had, and what each source accepted is what the report says was sent; and at each
+-- moment of the script a delivered message that is new is recorded by its line, and released where it closes the gap or
+-- the sequence is loose
 pub record IsReportOf (first now : Scene) (bytes text : List ℕ) : Type 0 where
   pub events : List Event
   pub script : IsScript (lines_of bytes) events
@@ -31,11 +32,12 @@ pub record IsReportOf (first now : Scene) (bytes text : List ℕ) : Type 0 where
       → TakesNew terms s.world
 
 -- the bytes are a script of which some first lines were played, and of the next one perhaps all but some last of its
--- packets; or a node was not made, and no line was played
+-- packets, and the disks keep the word by all that the nodes of that run ever had; or a node was not made, and no line
+-- was played
 pub record IsCutShortOf (first now : Scene) (bytes : List ℕ) : Type 0 where
   pub events : List Event
   pub script : IsScript (lines_of bytes) events
-  pub ran : (terms : Terms) → AreOfNet terms → IsUnmade first now ⊎ RanShort terms events first now
+  pub ran : (terms : Terms) → AreOfNet terms → RanCut terms events first now
 
 -- why replay refuses bytes: the first line that is not in the grammar; and then the stage is as it was
 abbrev pub RefusesScript : {T : Type 0} → T → T → List ℕ → End → Type 0

@@ -4,6 +4,9 @@ use Rattle.std.specs.Prelude.{◌↔◌, IfSome}
 use Rattle.rm_base.specs.Limits as limits
 use Rattle.rm_base.specs.Outside.{Lasts}
 use Rattle.rm_script.specs.Report.Exits as exits
+use Rattle.rm_script.specs.Script.{IsScript, lines_of}
+use Rattle.rm_script.specs.Soak.Soak.{soak_script}
+use Rattle.rm_script.specs.declared.event.Event.{Event}
 use Rattle.rm_command.specs.declared.command.Command.{Command}
 use Rattle.rm_command.specs.declared.command.Command.TheVariants.{Replay, Soak, Check, Policy, Normal, Intersect}
 use Rattle.rm_command.specs.declared.end.End.{End}
@@ -86,6 +89,11 @@ pub record IsStatusOf (words : List (List ℕ)) (bytes : List ℕ) (status : ℕ
 pub record HasStatus (words : List (List ℕ)) (left : Option (List ℕ)) (status : ℕ) : Type 0 where
   pub usage : (status ≡ exits.usage) ↔ AsksNothing words
   pub bytes : IfSome left (λ bytes. IsStatusOf words bytes status)
+
+-- the script that the words ask for: what the input has, where it tells that, or what the number makes
+pub record IsAskedFor (words : List (List ℕ)) (left : Option (List ℕ)) (script : List Event) : Type 0 where
+  pub replay : AsksReplay words → IfSome left (λ bytes. IsScript (lines_of bytes) script)
+  pub soak : (n : ℕ) → AsksSoakOf words n → IsScript (lines_of (soak_script n)) script
 
 -- a run of replay
 pub record RunsReplay {S K T : Type 0} (end : End) (e : Edge S K) (old new : Staged T) : Type 0 where

@@ -1,8 +1,8 @@
 //! The whole program over any input and output.
 ghost use Rattle.std.specs.Prelude.{◌≡◌, ◌⊎◌, ◌↔◌, ◌∷◌, [], codes, IsTrue};
 ghost use Rattle.rm_command.specs.Edge.{edge_of};
-ghost use Rattle.rm_command.specs.Run.{AsksReplay, AsksSoak, Asks, HasStatus, IsNamed, Runs};
-ghost use Rattle.rm_command.specs.Stage.{KeepsLooseAt, KeepsWordAt, staged_of};
+ghost use Rattle.rm_command.specs.Run.{AsksReplay, AsksSoak, Asks, HasStatus, IsAskedFor, IsNamed, Runs};
+ghost use Rattle.rm_command.specs.Stage.{KeepsWordAt, staged_of};
 ghost use Rattle.rm_command.specs.Status.{status_of};
 ghost use Rattle.rm_command.specs.declared.end.End.{End as AnEnd};
 ghost use Rattle.rm_replay.specs.Shows.{IsFresh, scene_of};
@@ -35,8 +35,9 @@ use std::alloc::Global;
 ///   or 10; of others 3 (`replay`) or 9, 4 or 10; of more bytes than its limit, 16777216 or 2097152, 8, 4 or 10. Of
 ///   `soak` comes 0, 5 or 10.
 /// - `word`: for `replay` and `soak`: at 0 and 5 the headline holds at each pair of images of both disks, so whatever a
-///   crash would leave of them. At 10 it holds too, unless the stage is as it was, or a node was not made and no line
-///   was played. At each other status the stage is as it was.
+///   crash would leave of them. What it says was accepted and consumed is what the nodes of the script's run accepted
+///   and consumed. At 10 it holds too, by the run of some first lines, unless the stage is as it was, or a node was not
+///   made and no line was played. At each other status the stage is as it was.
 pub fn run<S: Source, K: Sink, M: CrashDisk, W: Wire>(
     alloc: Global,
     words: &[Blob],
@@ -47,11 +48,8 @@ pub fn run<S: Source, K: Sink, M: CrashDisk, W: Wire>(
     requires fresh { IsFresh (scene_of M.told W.packets stage.old) }
 
     // The headline, over every input and output, over every two disks and every wire.
-    ensures word { AsksReplay words.now ⊎ AsksSoak words.now → KeepsWordAt result
-        (staged_of M.told W.packets stage.old) (staged_of M.told W.packets stage.new) }
-
-    // Beside it, what is said of the sequences that are delivered as their messages come.
-    ensures loose { AsksReplay words.now ⊎ AsksSoak words.now → KeepsLooseAt result
+    ensures word { AsksReplay words.now ⊎ AsksSoak words.now
+        → KeepsWordAt (IsAskedFor words.now (S.told input.old).left) result
         (staged_of M.told W.packets stage.old) (staged_of M.told W.packets stage.new) }
 
     // What was done, by the words and the status.
@@ -79,10 +77,6 @@ fn obey<S: Source, K: Sink, M: CrashDisk, W: Wire>(
     stage: &mut Stage<M, W>,
 ) -> End
     requires fresh { IsFresh (scene_of M.told W.packets stage.old) }
-    ensures word { AsksReplay words.now ⊎ AsksSoak words.now → KeepsWordAt (status_of result)
-        (staged_of M.told W.packets stage.old) (staged_of M.told W.packets stage.new) }
-    ensures loose { AsksReplay words.now ⊎ AsksSoak words.now → KeepsLooseAt (status_of result)
-        (staged_of M.told W.packets stage.old) (staged_of M.told W.packets stage.new) }
     ensures runs { Runs words.now result (edge_of S.told K.told K.wants_memory input.old input.new out.old out.new)
         (staged_of M.told W.packets stage.old) (staged_of M.told W.packets stage.new) }
 {

@@ -2,9 +2,8 @@
 ghost use Rattle.rm_base.specs.Limits.{script_bytes};
 ghost use Rattle.rm_command.specs.Edge.{edge_of, KeepsEdge};
 ghost use Rattle.rm_command.specs.Replay.{EndsReplay};
-ghost use Rattle.rm_command.specs.Stage.{KeepsLooseAt, KeepsWordAt, staged_of};
+ghost use Rattle.rm_command.specs.Stage.{staged_of};
 ghost use Rattle.rm_replay.specs.Shows.{IsFresh, scene_of};
-ghost use Rattle.rm_command.specs.Status.{status_of};
 
 use crate::end::{End, refuse_line};
 use crate::filter::{read_input, write_text};
@@ -30,10 +29,6 @@ pub fn replay<S: Source, K: Sink, M: CrashDisk, W: Wire>(
     stage: &mut Stage<M, W>,
 ) -> End
     requires fresh { IsFresh (scene_of M.told W.packets stage.old) }
-    ensures word { KeepsWordAt (status_of result) (staged_of M.told W.packets stage.old)
-        (staged_of M.told W.packets stage.new) }
-    ensures loose { KeepsLooseAt (status_of result) (staged_of M.told W.packets stage.old)
-        (staged_of M.told W.packets stage.new) }
     ensures ends { EndsReplay result (edge_of S.told K.told K.wants_memory input.old input.new out.old out.new)
         (staged_of M.told W.packets stage.old) (staged_of M.told W.packets stage.new) }
     ensures kept { KeepsEdge script_bytes result

@@ -2,8 +2,7 @@
 ghost use Rattle.std.specs.Prelude.{IfOk};
 ghost use Rattle.rm_command.specs.Edge.{side_of, KeepsOutput};
 ghost use Rattle.rm_command.specs.Replay.{EndsSoak};
-ghost use Rattle.rm_command.specs.Stage.{KeepsLooseAt, KeepsWordAt, staged_of};
-ghost use Rattle.rm_command.specs.Status.{status_of};
+ghost use Rattle.rm_command.specs.Stage.{staged_of};
 ghost use Rattle.rm_replay.specs.Shows.{IsFresh, scene_of};
 ghost use Rattle.rm_script.specs.Script.{lines_of, IsScript};
 ghost use Rattle.rm_script.specs.Soak.Soak.{soak_script};
@@ -31,10 +30,6 @@ pub fn soak<K: Sink, M: CrashDisk, W: Wire>(
     stage: &mut Stage<M, W>,
 ) -> End
     requires fresh { IsFresh (scene_of M.told W.packets stage.old) }
-    ensures word { KeepsWordAt (status_of result) (staged_of M.told W.packets stage.old)
-        (staged_of M.told W.packets stage.new) }
-    ensures loose { KeepsLooseAt (status_of result) (staged_of M.told W.packets stage.old)
-        (staged_of M.told W.packets stage.new) }
     ensures ends { EndsSoak number result (side_of K.told out.old) (side_of K.told out.new)
         (staged_of M.told W.packets stage.old) (staged_of M.told W.packets stage.new) }
     ensures kept { KeepsOutput K.wants_memory result (side_of K.told out.old) (side_of K.told out.new) }

@@ -1,25 +1,11 @@
 -- From three nodes of the protocol to the promise by three disks.
-use Rattle.std.proofs.Common.{ℕ, List}
-use Rattle.rm_protocol.specs.Node.{Node, mounted, records}
-use Rattle.rm_protocol.specs.Sound.{Keeps}
 use Rattle.rm_replay.specs.Actor.LeftLemmas.{left_mounted}
-use Rattle.rm_replay.specs.Actor.Stands.{IsLeftOf, Leaves}
+use Rattle.rm_replay.specs.Actor.Stands.{Leaves}
+use Rattle.rm_replay.specs.ImageLemmas.{image_of}
 use Rattle.rm_relay.specs.Word.Word.{KeepsAll}
 use Rattle.rm_relay.specs.Word.World.{World}
-use Rattle.rm_relay.specs.Headline.{Image, KeepsPromiseOf}
+use Rattle.rm_relay.specs.Headline.{KeepsPromiseOf}
 use Rattle.rm_relay.specs.Shows.{Scene}
-
--- bytes that a node's disk leaves are an image that keeps what the node ever had
-abbrev image_of : (x : Node) (bytes : List ℕ) (left : IsLeftOf x bytes)
-    → Keeps (records (mounted x left.kept)) (mounted x left.kept).whole → Image x bytes
-image_of x bytes left kept = record {
-  batches = (mounted x left.kept).entries;
-  stands = record { bank = left.stands.bank; stands = left.stands.stands };
-  each = left.are.each;
-  whole = (mounted x left.kept).whole;
-  left = left_mounted x left.kept;
-  kept = kept;
-}
 
 -- the nodes of a world that keeps the word, on three disks
 pub promise_of : (w : World) (scene : Scene) → KeepsAll w → Leaves w.one scene.drives.one.disk.past

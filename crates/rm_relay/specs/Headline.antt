@@ -1,33 +1,17 @@
 -- The promise of a relay, by three disks.
 use Rattle.std.proofs.Common.{inl, inr}
 use Rattle.std.specs.Prelude.{◌≡◌, ◌≢◌, ◌⊎◌, ⊤, ℕ, List, slice_get, Option, Some}
-use Rattle.std.specs.List.{AllByRecursion}
-use Rattle.record_batch.specs.Fact.{Fact}
-use Rattle.record_batch.specs.Writable.{IsBatch}
 use Rattle.rm_disk.specs.Image.{MayLeave}
-use Rattle.rm_protocol.specs.Crashes.{IsLeft}
-use Rattle.rm_protocol.specs.Node.{Node, records_in}
-use Rattle.rm_protocol.specs.Sound.{Keeps}
+use Rattle.rm_protocol.specs.Node.{records_in}
 use Rattle.rm_protocol.specs.Terms.{Terms}
 use Rattle.rm_script.specs.Report.Exits as exits
-use Rattle.node_store.specs.Has.{StandsForBatches}
+use Rattle.rm_replay.specs.Headline.{Image}
 use Rattle.rm_relay.specs.Meaning.{Means, stepped}
 use Rattle.rm_relay.specs.Played.{IsUnmade, RanShort}
 use Rattle.rm_relay.specs.Shows.{Scene}
 use Rattle.rm_relay.specs.declared.event.Event.{Event as Said}
 use Rattle.rm_relay.specs.Word.Word.{KeepsRelay}
 use Rattle.rm_relay.specs.Word.World.{Event, World}
-
--- an image of the disk of this node stands for batches, each of which is read back from its text. Their records are
--- what one more crash would leave, beside all that the node then ever had; and they say what these say, but for items
--- that are gone, of which there are none among these
-pub record Image (x : Node) (bytes : List ℕ) : Type 0 where
-  pub batches : List (List Fact)
-  pub stands : StandsForBatches batches bytes
-  pub each : AllByRecursion IsBatch batches
-  pub whole : List Fact
-  pub left : IsLeft x (records_in batches) whole
-  pub kept : Keeps (records_in batches) whole
 
 -- three images keep the promise, by all that the nodes of this world ever had
 pub record KeepRelay (w : World) (one two three : List ℕ) : Type 0 where

@@ -16,7 +16,7 @@ use Rattle.rm_replay.specs.Meaning.{side_of}
 use Rattle.rm_replay.specs.Shows.{Drives}
 use Rattle.rm_replay.specs.Tales.{Drive, Grew, Tells}
 use Rattle.rm_replay.specs.declared.stage.Nodes.{Nodes}
-use Rattle.rm_replay.proofs.HeadlineLemmas.{stands_for}
+use Rattle.rm_replay.specs.ImageLemmas.{stands_for}
 use Rattle.rm_replay.specs.TaleLemmas.{grew_none, tells_none}
 
 -- what a crash tells of its node

@@ -1,20 +1,21 @@
 -- A script that was played is a run of the protocol.
 use Rattle.std.proofs.Common.{◌≡◌, ◌∙◌, List, ◌∷◌, ◌++◌, Option, Some, None, refl, sym, ap, subst, inl, inr, []}
-use Rattle.std.specs.List.{AllByRecursion}
+use Rattle.std.specs.Prelude.{◌⊎◌, ◌+◌, length}
+use Rattle.rm_protocol.specs.Node.{Node}
 use Rattle.rm_protocol.specs.Terms.{Terms}
 use Rattle.rm_protocol.specs.Crashes.{KeepsAll}
 use Rattle.rm_protocol.specs.World.{AreMade, Event, World, happens, run, start}
 use Rattle.rm_protocol.specs.Terms.{AreTerms}
-use Rattle.rm_script.specs.Within.{IsWithin}
 use Rattle.rm_script.specs.declared.event.Event.{Event as Said}
 use Rattle.record_batch.specs.Sequences.Words.{Text}
 use Rattle.node_laws.specs.OwnTerms.{OwnAreTerms}
-use Rattle.rm_replay.specs.Headline.{KeepsHeadline, KeepsLooseWord}
+use Rattle.rm_replay.specs.Actor.Stands.{Leaves}
+use Rattle.rm_replay.specs.Headline.{KeepsPairOf}
 use Rattle.rm_replay.specs.Meaning.{stepped}
 use Rattle.rm_replay.specs.Net.{AreOfNet}
-use Rattle.rm_replay.specs.Played.{Played, Story, none, more, start_world}
-use Rattle.rm_replay.specs.Shows.{Holds, IsCutIn, IsLeftOfLine, Scene, address_one, address_two}
-use Rattle.rm_replay.proofs.HeadlineLemmas.{headline_of, keeps_by_nodes, loose_of}
+use Rattle.rm_replay.specs.Played.{KeepsPlayed, Played, Story, none, more, start_world, told_on}
+use Rattle.rm_replay.specs.Shows.{Holds, IsLeftOfLine, Scene, address_one, address_two}
+use Rattle.rm_replay.proofs.HeadlineLemmas.{pair_of}
 use Rattle.rm_replay.specs.NetLemmas.{are_made, are_terms}
 
 -- the run of two scripts, one behind the other
@@ -57,45 +58,23 @@ keeps_run keep own terms w net of =
 
 -- what a played script made keeps the headline
 abbrev pub headline_whole : RunGoesOn → RunsKeep → OwnAreTerms → (terms : Terms) (script : List Said) (s : Story)
-    → AreOfNet terms → AllByRecursion IsWithin script → Played terms script s → (scene : Scene) → Holds s.world scene
-    → KeepsHeadline scene.drives.one.disk.past scene.drives.two.disk.past
-headline_whole goes keep own terms script s net within played scene holds =
-    headline_of s.world scene (keeps_run keep own terms s.world net (run_of goes terms script s played)) holds
+    → AreOfNet terms → Played terms script s → (scene : Scene) → Holds s.world scene → KeepsPairOf s.world scene
+headline_whole goes keep own terms script s net played scene holds =
+    pair_of s.world scene (keeps_run keep own terms s.world net (run_of goes terms script s played)) holds.one holds.two
 
--- the world of a further line keeps it, and so does one that lacks some last of its packets
-keeps_cut : RunGoesOn → RunsKeep → OwnAreTerms → (terms : Terms) (script : List Said) (s : Story) → AreOfNet terms
-    → Played terms script s → (event : Event) (v : World) → IsCutIn terms s.world event v → KeepsAll v
-keeps_cut goes keep own terms script s net played event v cut =
-    let of = run_of goes terms script s played in
-    let next = run_step goes terms s.world (Some event) of in
-    keeps_by_nodes v (happens terms s.world event) cut.one cut.two
-    (keeps_run keep own terms (happens terms s.world event) net next)
-
--- and where memory was wanting in a further line
+-- and what stands where memory was wanting in a further line
 pub headline_short : RunGoesOn → RunsKeep → OwnAreTerms → (terms : Terms) (script : List Said) (s : Story)
-    → AreOfNet terms → AllByRecursion IsWithin script → Played terms script s → (line : Said) → IsWithin line
-    → (scene : Scene) → IsLeftOfLine terms s.world line scene
-    → KeepsHeadline scene.drives.one.disk.past scene.drives.two.disk.past
-headline_short goes keep own terms script s net within played line inside scene (inl holds) =
-    headline_whole goes keep own terms script s net within played scene holds
-headline_short goes keep own terms script s net within played line inside scene (inr (event, means, v, cut, holds)) =
-    headline_of v scene (keeps_cut goes keep own terms script s net played event v cut) holds
-
--- ---- loose sequences
-
--- what a played script made keeps what is said of them
-pub loose_whole : RunGoesOn → RunsKeep → OwnAreTerms → (terms : Terms) (script : List Said) (s : Story)
-    → AreOfNet terms → AllByRecursion IsWithin script → Played terms script s → (scene : Scene) → Holds s.world scene
-    → KeepsLooseWord scene.drives.one.disk.past scene.drives.two.disk.past
-loose_whole goes keep own terms script s net within played scene holds =
-    loose_of s.world scene (keeps_run keep own terms s.world net (run_of goes terms script s played)) holds
-
--- and where memory was wanting in a further line
-pub loose_short : RunGoesOn → RunsKeep → OwnAreTerms → (terms : Terms) (script : List Said) (s : Story)
-    → AreOfNet terms → AllByRecursion IsWithin script → Played terms script s → (line : Said) → IsWithin line
-    → (scene : Scene) → IsLeftOfLine terms s.world line scene
-    → KeepsLooseWord scene.drives.one.disk.past scene.drives.two.disk.past
-loose_short goes keep own terms script s net within played line inside scene (inl holds) =
-    loose_whole goes keep own terms script s net within played scene holds
-loose_short goes keep own terms script s net within played line inside scene (inr (event, means, v, cut, holds)) =
-    loose_of v scene (keeps_cut goes keep own terms script s net played event v cut) holds
+    → AreOfNet terms → Played terms script s → (line : Said) (scene : Scene) → IsLeftOfLine terms s.world line scene
+    → KeepsPairOf s.world scene ⊎ KeepsPlayed terms (script ++ line ∷ []) scene
+headline_short goes keep own terms script s net played line scene (inl holds) =
+    inl (headline_whole goes keep own terms script s net played scene holds)
+headline_short goes keep own terms script s net played line scene (inr (event, means, v, cut, holds)) =
+    let after = happens terms s.world event in
+    let of = run_step goes terms s.world (Some event) (run_of goes terms script s played) in
+    inr (
+      told_on terms (length script + 1) s line (Some event),
+      more script s line (Some event) played means,
+      pair_of after scene (keeps_run keep own terms after net of)
+          (subst (λ (x : Node). Leaves x scene.drives.one.disk.past) cut.one holds.one)
+          (subst (λ (x : Node). Leaves x scene.drives.two.disk.past) cut.two holds.two),
+    )

@@ -1,7 +1,6 @@
 -- What a report says was sent is what the protocol says.
 use Rattle.std.proofs.Common.{◌≡◌, ◌∙◌, ◌+◌, ℕ, cond, Bool, true, false, List, ◌∷◌, ◌++◌, length, refl, sym, ap, []}
 use Rattle.std.proofs.Common.{Option, Some, None, append-nil, subst, inl, inr, length-append}
-use Rattle.std.specs.List.{AllByRecursion}
 use Rattle.std.proofs.lemmas.List.{length-map}
 use Rattle.record_batch.specs.Fact.{Fact}
 use Rattle.rm_protocol.specs.Calls.{Cause, NoSequence, WrongSide, PayloadTooLong, BadPayload, NotOpen}
@@ -19,7 +18,6 @@ use Rattle.rm_protocol.specs.Word.{history}
 use Rattle.rm_protocol.specs.World.{Event, Side, One, Two, World, happens, node, run}
 use Rattle.rm_script.specs.declared.report.line.Line.{Line}
 use Rattle.rm_script.specs.declared.report.line.Outcome.{Outcome}
-use Rattle.rm_script.specs.Within.{IsWithin}
 use Rattle.rm_script.specs.declared.event.Event.{Event as Said}
 use Rattle.rm_script.specs.declared.event.Event.TheVariants as said
 use Rattle.rm_script.specs.declared.event.Side.{Side as Place}
@@ -349,10 +347,10 @@ accepts goes on law terms script s played at kept seq =
     ∙ sym (sent_same script s.report (lines terms of.events start_world) of.are at seq (length x.entries))
 
 pub accepted_sent : RunGoesOn → LinesGoOn → IsSentInRuns → RunsKeep → OwnAreTerms → (terms : Terms)
-    (script : List Said) (s : Story) → AreOfNet terms → AllByRecursion IsWithin script → Played terms script s
-    → (scene : Scene) → Holds s.world scene → AcceptedIsSent script s.report scene
-accepted_sent goes on law keep own terms script s net within played scene holds x y may_x may_y = record {
-  word = headline_whole goes keep own terms script s net within played scene holds x y may_x may_y;
+    (script : List Said) (s : Story) → AreOfNet terms → Played terms script s → (scene : Scene) → Holds s.world scene
+    → AcceptedIsSent s.world script s.report scene
+accepted_sent goes on law keep own terms script s net played scene holds x y may_x may_y = record {
+  pair = headline_whole goes keep own terms script s net played scene holds x y may_x may_y;
   one = accepts goes on law terms script s played One (holds.one x may_x).kept;
   two = accepts goes on law terms script s played Two (holds.two y may_y).kept;
 }

@@ -4,6 +4,7 @@ pub mod EntryLemmas
 pub mod FetchedLemmas
 pub mod Happening
 pub mod Headline
+pub mod ImageLemmas
 pub mod Meaning
 pub mod Net
 pub mod NetLemmas

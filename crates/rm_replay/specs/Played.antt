@@ -10,6 +10,7 @@ use Rattle.rm_replay.specs.Actor.Stands.{Leaves}
 use Rattle.node_store.specs.Changes.{WasNotMade}
 use Rattle.rm_replay.specs.Summary.Summary.{node_text}
 use Rattle.rm_replay.specs.Asked.{WereSpared}
+use Rattle.rm_replay.specs.Headline.{KeepsPairOf}
 use Rattle.rm_replay.specs.Meaning.{Means, comes_out, report_of, stepped}
 use Rattle.rm_replay.specs.Sent.{AcceptedIsSent}
 use Rattle.rm_replay.specs.Shows.{Drives, Holds, IsCut, IsFresh, Scene, address_one, address_two}
@@ -69,15 +70,15 @@ pub record TellBoth (s : Story) (first now : Scene) : Type 0 where
   pub one : Tells s.one first.drives.one now.drives.one
   pub two : Tells s.two first.drives.two now.drives.two
 
--- all lines were played, the disks and the wire hold what is there then, this is the report, and what each source
--- accepted is what the report says was sent
+-- all lines were played, the disks and the wire hold what is there then, and this is the report. The disks keep the
+-- word by all that the nodes of that run ever had, and what each source accepted is what the report says was sent
 pub record Ran (terms : Terms) (script : List Said) (first now : Scene) (text : List ℕ) : Type 0 where
   pub story : Story
   pub played : Played terms script story
   pub holds : Holds story.world now
   pub tell : TellBoth story first now
   pub printed : text ≡ lines_text story.report ++ end_text story.world
-  pub sent : AcceptedIsSent script story.report now
+  pub sent : AcceptedIsSent story.world script story.report now
 
 -- memory was wanting for node 1: its disk is as it was or has an empty journal, and that of node 2 is as it was
 pub record IsFirstUnmade (first now : Drives) : Type 0 where
@@ -107,3 +108,17 @@ pub record RanShort (terms : Terms) (script : List Said) (first now : Scene) : T
   pub tell : TellBoth story first before
   pub left : (Holds story.world now × (now ≡ before))
       ⊎ ((line : Said) × (slice_get script count ≡ Some line) × IsCut terms story.world line before now)
+
+-- these lines were played, and the disks keep the word by all that the nodes ever had then
+abbrev pub KeepsPlayed : Terms → List Said → Scene → Type 0
+KeepsPlayed terms script now = (s : Story) × Played terms script s × KeepsPairOf s.world now
+
+-- so many first lines of a script were played, or one more, and the disks keep the word so
+abbrev pub KeepsShort : Terms → List Said → ℕ → Scene → Type 0
+KeepsShort terms script count now =
+    KeepsPlayed terms (take count script) now ⊎ KeepsPlayed terms (take (count + 1) script) now
+
+-- memory was wanting, and the disks keep the word all the same; or a node was not made
+abbrev pub RanCut : Terms → List Said → Scene → Scene → Type 0
+RanCut terms script first now =
+    IsUnmade first now ⊎ ((short : RanShort terms script first now) × KeepsShort terms script short.count now)

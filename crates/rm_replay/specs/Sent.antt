@@ -3,14 +3,14 @@ use Rattle.std.specs.Prelude.{◌≡◌, ℕ, ◌+◌, ◌==◌, ◌&&◌, Bool,
 use Rattle.rm_disk.specs.Image.{MayLeave}
 use Rattle.rm_protocol.specs.Sent.{same_side}
 use Rattle.rm_protocol.specs.Word.{history}
-use Rattle.rm_protocol.specs.World.{Side, One, Two}
+use Rattle.rm_protocol.specs.World.{Side, One, Two, World}
 use Rattle.rm_script.specs.declared.report.line.Line.{Line}
 use Rattle.rm_script.specs.declared.report.line.Outcome.{Outcome}
 use Rattle.rm_script.specs.declared.report.line.Outcome.TheVariants as told
 use Rattle.rm_script.specs.declared.event.Event.{Event as Said}
 use Rattle.rm_script.specs.declared.event.Event.TheVariants as said
 use Rattle.record_batch.specs.Sequences.Words.{Text}
-use Rattle.rm_replay.specs.Headline.{KeepWord}
+use Rattle.rm_replay.specs.Headline.{KeepPair}
 use Rattle.rm_replay.specs.Meaning.{side_of}
 use Rattle.rm_replay.specs.Shows.{Scene}
 
@@ -60,14 +60,16 @@ sent_in at seq image (pair ∷ more) =
     sent_by at seq pair.line (counts pair.report.outcome (entries_at at pair.report) (next_entries at image more))
     ++ sent_in at seq image more
 
--- two images keep the word, and all that each source ever accepted is what the report says was sent
-pub record KeepWordOfSent (script : List Said) (report : List Line) (image_one image_two : List ℕ) : Type 0 where
-  pub word : KeepWord image_one image_two
-  pub one : (seq : ℕ) → history word.whole_one seq ≡ sent_in One seq (length word.one) (paired script report)
-  pub two : (seq : ℕ) → history word.whole_two seq ≡ sent_in Two seq (length word.two) (paired script report)
+-- two images keep the word by all that the nodes of this world ever had, and all that each source of theirs ever
+-- accepted is what the report says was sent
+pub record KeepPairOfSent (w : World) (script : List Said) (report : List Line) (image_one image_two : List ℕ) : Type 0
+  where
+    pub pair : KeepPair w image_one image_two
+    pub one : (seq : ℕ) → history pair.one.whole seq ≡ sent_in One seq (length pair.one.batches) (paired script report)
+    pub two : (seq : ℕ) → history pair.two.whole seq ≡ sent_in Two seq (length pair.two.batches) (paired script report)
 
 -- so it is for each pair of images of both disks
-abbrev pub AcceptedIsSent : List Said → List Line → Scene → Type 0
-AcceptedIsSent script report now =
+abbrev pub AcceptedIsSent : World → List Said → List Line → Scene → Type 0
+AcceptedIsSent w script report now =
     (image_one image_two : List ℕ) → MayLeave now.drives.one.disk.past image_one
-    → MayLeave now.drives.two.disk.past image_two → KeepWordOfSent script report image_one image_two
+    → MayLeave now.drives.two.disk.past image_two → KeepPairOfSent w script report image_one image_two

@@ -1,13 +1,13 @@
 //! Laws of scripts that are played.
-ghost use Rattle.std.specs.Prelude.{◌≡◌, ℕ, List, take};
+ghost use Rattle.std.specs.Prelude.{◌≡◌, ◌⊎◌, ◌++◌, ◌∷◌, ℕ, List, [], take};
 ghost use Rattle.rm_protocol.specs.Delivered.{TakesNew};
 ghost use Rattle.rm_protocol.specs.Terms.{Terms};
 ghost use Rattle.rm_protocol.specs.World.{Event as Happening, run};
 ghost use Rattle.rm_script.specs.Within.{IsWithin};
 ghost use Rattle.rm_script.specs.declared.event.Event.{Event as Said};
-ghost use Rattle.rm_replay.specs.Headline.{KeepsHeadline, KeepsLooseWord};
+ghost use Rattle.rm_replay.specs.Headline.{KeepsPairOf};
 ghost use Rattle.rm_replay.specs.Net.{AreOfNet};
-ghost use Rattle.rm_replay.specs.Played.{Played, Story, start_world};
+ghost use Rattle.rm_replay.specs.Played.{KeepsPlayed, Played, Story, start_world};
 ghost use Rattle.rm_replay.specs.Sent.{AcceptedIsSent};
 ghost use Rattle.rm_replay.specs.Shows.{Holds, IsLeftOfLine, Scene};
 ghost use Rattle.rm_replay.specs.Unarmed.{ArmsNone, TellsCalm};
@@ -36,36 +36,27 @@ pub fn a_played_script_is_a_run()
     a_run_goes_on();
 }
 
-/// Two disks that hold what a played script made keep the headline, and what is said of loose sequences; so do two
-/// disks where memory was wanting in a further line.
+/// Two disks that hold what a played script made keep the headline, and what is said of loose sequences, by all that
+/// its nodes ever had. So do two disks where memory was wanting in a further line, perhaps by all that the nodes ever
+/// had once that line was played.
 pub fn a_played_script_keeps_the_headline()
-    ensures whole { (terms : Terms) (script : List Said) (s : Story) → AreOfNet terms → AllByRecursion IsWithin script
-        → Played terms script s → (scene : Scene) → Holds s.world scene
-        → KeepsHeadline scene.drives.one.disk.past scene.drives.two.disk.past }
-    ensures short { (terms : Terms) (script : List Said) (s : Story) → AreOfNet terms → AllByRecursion IsWithin script
-        → Played terms script s → (line : Said) → IsWithin line → (scene : Scene)
-        → IsLeftOfLine terms s.world line scene
-        → KeepsHeadline scene.drives.one.disk.past scene.drives.two.disk.past }
-    ensures loose { (terms : Terms) (script : List Said) (s : Story) → AreOfNet terms → AllByRecursion IsWithin script
-        → Played terms script s → (scene : Scene) → Holds s.world scene
-        → KeepsLooseWord scene.drives.one.disk.past scene.drives.two.disk.past }
-    ensures loose_short { (terms : Terms) (script : List Said) (s : Story) → AreOfNet terms
-        → AllByRecursion IsWithin script
-        → Played terms script s → (line : Said) → IsWithin line → (scene : Scene)
-        → IsLeftOfLine terms s.world line scene
-        → KeepsLooseWord scene.drives.one.disk.past scene.drives.two.disk.past }
+    ensures whole { (terms : Terms) (script : List Said) (s : Story) → AreOfNet terms → Played terms script s
+        → (scene : Scene) → Holds s.world scene → KeepsPairOf s.world scene }
+    ensures short { (terms : Terms) (script : List Said) (s : Story) → AreOfNet terms → Played terms script s
+        → (line : Said) (scene : Scene) → IsLeftOfLine terms s.world line scene
+        → KeepsPairOf s.world scene ⊎ KeepsPlayed terms (script ++ line ∷ []) scene }
 {
     a_run_goes_on();
     every_run_keeps_the_word();
     own_terms_are_terms();
 }
 
-/// At each pair of images of both disks, all that a source ever accepted, of which the headline speaks, is what the
-/// report of a played script says was sent. A `send` counts whose line came out as `ok`, or as `disk` where the next
-/// crash of its node prints one entry more, or where none follows the image has one.
+/// At each pair of images of both disks, which keep the headline, all that a source ever accepted is what the report of
+/// a played script says was sent. A `send` counts whose line came out as `ok`, or as `disk` where the next crash of its
+/// node prints one entry more, or where none follows the image has one.
 pub fn what_was_accepted_was_sent()
-    ensures { (terms : Terms) (script : List Said) (s : Story) → AreOfNet terms → AllByRecursion IsWithin script
-        → Played terms script s → (scene : Scene) → Holds s.world scene → AcceptedIsSent script s.report scene }
+    ensures { (terms : Terms) (script : List Said) (s : Story) → AreOfNet terms → Played terms script s
+        → (scene : Scene) → Holds s.world scene → AcceptedIsSent s.world script s.report scene }
 {
     a_run_goes_on();
     accepted_is_sent();

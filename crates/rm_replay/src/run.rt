@@ -1,21 +1,20 @@
 //! The run of a script.
-ghost use Rattle.std.specs.Prelude.{◌≡◌, ◌++◌, ◌⊎◌, [], IfOk, OnErr, OnOk};
+ghost use Rattle.std.specs.Prelude.{◌≡◌, ◌++◌, [], IfOk, OnErr, OnOk};
 ghost use Rattle.std.specs.List.{AllByRecursion};
 ghost use Rattle.rm_replay.specs.Actor.Stands.{Stands};
 ghost use Rattle.rm_disk.specs.Told.{Told};
 ghost use Rattle.rm_protocol.specs.Node.{Node as Value};
 ghost use Rattle.rm_protocol.specs.Terms.{Terms};
 ghost use Rattle.rm_script.specs.Within.{IsWithin};
-ghost use Rattle.rm_replay.specs.Headline.{KeepsHeadline, KeepsLooseWord};
 ghost use Rattle.rm_replay.specs.Net.{AreOfNet};
-ghost use Rattle.rm_replay.specs.Played.{IsUnmade, Ran, RanShort, known_text, start_world};
+ghost use Rattle.rm_replay.specs.Played.{IsUnmade, Ran, RanCut, known_text, start_world};
 ghost use Rattle.rm_replay.specs.Shows.{IsFresh, Shows, drives_of, scene_of};
 ghost use Rattle.rm_replay.specs.Asked.{WereSpared};
 
 use crate::actor::Actor;
 use crate::actor::laws::each_image_is_left;
 use crate::happen::address;
-use crate::laws::{a_played_script_keeps_the_headline, there_are_nets, what_was_accepted_was_sent};
+use crate::laws::{a_played_script_keeps_the_headline, what_was_accepted_was_sent};
 use crate::play::play;
 use crate::stage::{Nodes, Stage};
 use crate::summary::push_node;
@@ -63,10 +62,11 @@ pub fn push_known(report: &mut Blob, number: u64, actor: &Actor) -> Result<(), M
 ///   for entries that one more crash of its node leaves. The wire has the texts of all packets that were sent, in
 ///   order, each for the other node. The report is the lines' and then what both nodes know. Each disk had exactly the
 ///   crashes of its node's lines, in order, and its count of faults rose by as many at least as lines of its node came
-///   out as `disk`.
+///   out as `disk`. The disks keep the headline, and what is said of loose sequences, by all that the nodes of this run
+///   ever had.
 /// - `err`: a node was not made; or some first lines were played, and of the next one nothing, or its records and some
-///   first of its packets. If that line is a crash, the disk of its own node may have had it.
-/// - `loose`, `loose_short`: what is said of loose sequences, for the same images and the same records.
+///   first of its packets. If that line is a crash, the disk of its own node may have had it. The disks keep the
+///   headline then too, by all that the nodes ever had after so many lines, or after one more.
 pub fn run_script<M: CrashDisk, W: Wire>(
     alloc: Global,
     stage: &mut Stage<M, W>,
@@ -77,21 +77,10 @@ pub fn run_script<M: CrashDisk, W: Wire>(
     ensures ok { (terms : Terms) → AreOfNet terms → IfOk result (λ report. Ran terms script.items
         (scene_of M.told W.packets stage.old)
         (scene_of M.told W.packets stage.new) report) }
-    ensures err { (terms : Terms) → AreOfNet terms → OnErr result
-        (IsUnmade (scene_of M.told W.packets stage.old) (scene_of M.told W.packets stage.new)
-        ⊎ RanShort terms script.items
+    ensures err { (terms : Terms) → AreOfNet terms → OnErr result (RanCut terms script.items
         (scene_of M.told W.packets stage.old)
         (scene_of M.told W.packets stage.new)) }
-    ensures word { OnOk result (KeepsHeadline (M.told stage.new.one).past (M.told stage.new.two).past) }
-    ensures short { OnErr result
-        (IsUnmade (scene_of M.told W.packets stage.old) (scene_of M.told W.packets stage.new)
-        ⊎ KeepsHeadline (M.told stage.new.one).past (M.told stage.new.two).past) }
-    ensures loose { OnOk result (KeepsLooseWord (M.told stage.new.one).past (M.told stage.new.two).past) }
-    ensures loose_short { OnErr result
-        (IsUnmade (scene_of M.told W.packets stage.old) (scene_of M.told W.packets stage.new)
-        ⊎ KeepsLooseWord (M.told stage.new.one).past (M.told stage.new.two).past) }
 {
-    there_are_nets();
     a_played_script_keeps_the_headline();
     what_was_accepted_was_sent();
     each_image_is_left();

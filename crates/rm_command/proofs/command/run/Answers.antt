@@ -1,6 +1,7 @@
 use Rattle.rm_command.specs.Status.{status_of}
 use Rattle.rm_command.proofs.AlternativesLemmas.{finding_status}
 use Rattle.rm_command.proofs.CheckLemmas.{check_status, replay_status}
+use Rattle.rm_command.proofs.KeptLemmas.{keeps_word}
 use Rattle.rm_command.proofs.PolicyLemmas.{policy_status}
 use Rattle.rm_command.proofs.SoakLemmas.{soak_status}
 use Rattle.rm_command.proofs.StatusLemmas.{status_by, usage_by}
@@ -23,7 +24,5 @@ returns-clause-status g c = record {
 }
 
 pub returns-clause-word : goal.returns-clause-word
-returns-clause-word g c = rw c.status.ensures c.obey.ensures.word
-
-pub returns-clause-loose : goal.returns-clause-loose
-returns-clause-loose g c = rw c.status.ensures c.obey.ensures.loose
+returns-clause-word g c asked =
+    rw c.status.ensures (keeps_word c.args.words.now c.obey.result _ _ _ c.obey.ensures.runs asked)

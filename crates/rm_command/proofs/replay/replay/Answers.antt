@@ -1,4 +1,4 @@
-use Rattle.std.proofs.Common.{inr, refl}
+use Rattle.std.proofs.Common.{inr}
 use Rattle.rm_command.specs.RunLemmas.{writing_ends}
 use Rattle.rm_command.proofs.replay.replay.Goals as goal
 
@@ -29,19 +29,3 @@ returns-clause-ends g c =
       };
       silent = cc c.in-Ok.ensures.silent;
     }))
-
-pub returns-clause-word : goal.returns-clause-word
-returns-clause-word g c = record {
-  done = λ e. absurd (cc e);
-  unwritten = λ e. absurd (cc e);
-  short = λ e. inr c.in-Err-run_script.ensures.short;
-  other = λ a b d. absurd (d refl);
-}
-
-pub returns-clause-loose : goal.returns-clause-loose
-returns-clause-loose g c = record {
-  done = λ e. absurd (cc e);
-  unwritten = λ e. absurd (cc e);
-  short = λ e. inr c.in-Err-run_script.ensures.loose_short;
-  other = λ a b d. absurd (d refl);
-}
