@@ -1,5 +1,6 @@
 -- The lemmas of `word`.
 pub mod ForwardLemmas
+pub mod HopLemmas
 pub mod KnownLemmas
 pub mod OrderLemmas
 pub mod PromiseLemmas

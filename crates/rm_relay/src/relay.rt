@@ -26,8 +26,9 @@ use std::alloc::Global;
 /// out.
 /// - `promise`: at each three images of the disks, what node 2 accepted on its first outgoing sequence is a prefix of
 ///   what it consumed of its first incoming one followed by the items past the cursor, and what node 3 consumed and
-///   holds on the matching sequence is a prefix of what node 1 accepted. It holds at 0 and 5, and at 10, unless the
-///   stage is as it was or a node was not made; at each other status nothing changed.
+///   holds on the matching sequence is a prefix of what node 1 accepted, and nothing where node 1 has no sequence that
+///   matches. What nodes 1 and 2 count as acknowledged the next node received. It holds at 0 and 5, and at 10, unless
+///   the stage is as it was or a node was not made; at each other status nothing changed.
 /// - `ends`: at 0 all lines were played, the disks and the wire hold what is there then, and what was written is the
 ///   report; the promise is by all that the nodes of that very run ever had. At 10 some first lines were played, and of
 ///   the next one perhaps all but some last of its packets, or a node was not made and no line was played.

@@ -10,7 +10,7 @@ use Rattle.record_batch.specs.Sequences.Find.{IsOutgoing}
 use Rattle.record_batch.specs.Sequences.Makers.{Maker, Outgoing, Offered, Incoming, Taken, address, created_from}
 use Rattle.record_batch.specs.Sequences.Makers.{ident_in}
 use Rattle.record_batch.specs.Sequences.Makers.{maker, makers, makers_of, number}
-use Rattle.rm_protocol.specs.Pair.{TellsOf}
+use Rattle.rm_protocol.specs.Pair.{IsBetweenThem, TellsOf}
 use Rattle.rm_protocol.specs.Sound.{IfWith, IsAgreed, IsAsked, IsIssuedBy, IsWith, Justified, asked_with}
 use Rattle.rm_relay.specs.Word.Roles.{HasRole, IsOfRole, Known, before, behind}
 use Rattle.rm_relay.specs.Word.World.{number_of}
@@ -60,25 +60,36 @@ incoming-apart a s t m e h none =
     let some : asked_with m ≡ Some h.ticket = subst (λ x. asked_with x ≡ Some h.ticket) same h.asked in
     absurd (cc (some, none))
 
--- the identifier of a sequence that a node sends on was issued by the node behind it
-sends-by : (at : Station) (a : List Fact) (here : Station → List Fact) (s : ℕ) (q : Text) (m : Maker)
+-- a sequence that a node sends on is one with the node behind it
+pub sent-behind : (at : Station) (a : List Fact) (here : Station → List Fact) (s : ℕ) (q : Text) (m : Maker)
     → HasRole at a → ((z : Station) → before at ≡ Some z → Beside z a (here z))
     → ((z : Station) → behind at ≡ Some z → Beside z a (here z)) → IsOutgoing a s q → maker a s ≡ Some m
-    → IsOfRole at m → (next : Station) × (behind at ≡ Some next) × IsIssuedBy (number_of next) q
-sends-by at a here s q (Outgoing ticket to via lapse) roles prior next o e role =
-    let b = next role.0 role.1 in
-    let there = b.tells.granted s q o
-    (record { maker_ = Outgoing ticket to via lapse; there = e; with_ = role.2 ∙ sym b.address_ }) in
-    (role.0, role.1, subst (λ n. IsIssuedBy n q) b.number_ there)
-sends-by at a here s q (Incoming c t k y l w) roles prior next o e role =
+    → IsOfRole at m → (next : Station) × (behind at ≡ Some next) × IsBetweenThem a (here next) s
+sent-behind at a here s q (Outgoing ticket to via lapse) roles prior next o e role =
+    let b = next role.0 role.1 in (
+      role.0,
+      role.1,
+      record { maker_ = Outgoing ticket to via lapse; there = e; with_ = role.2 ∙ sym b.address_ },
+    )
+sent-behind at a here s q (Incoming c t k y l w) roles prior next o e role =
     let b = prior role.0 role.1 in
     let sent = sent-on at a (here role.0) a 0 s q roles b.justified o.is in
     let same : sent.maker_ ≡ Incoming c t k y l w = cc (sent.there, e) in
     let asked = sent.asked (subst (IsWith (here role.0)) (sym same)
     (subst (λ n. IsIssuedBy n t) (sym b.number_) role.2)) in
     absurd (incoming-apart a s asked.0 (Incoming c t k y l w) e asked.1 refl)
-sends-by at a here s q (Offered ticket c to y) roles prior next o e role = absurd role
-sends-by at a here s q (Taken t i k) roles prior next o e role = absurd role
+sent-behind at a here s q (Offered ticket c to y) roles prior next o e role = absurd role
+sent-behind at a here s q (Taken t i k) roles prior next o e role = absurd role
+
+-- so its identifier was issued by that node
+sends-by : (at : Station) (a : List Fact) (here : Station → List Fact) (s : ℕ) (q : Text) (m : Maker)
+    → HasRole at a → ((z : Station) → before at ≡ Some z → Beside z a (here z))
+    → ((z : Station) → behind at ≡ Some z → Beside z a (here z)) → IsOutgoing a s q → maker a s ≡ Some m
+    → IsOfRole at m → (next : Station) × (behind at ≡ Some next) × IsIssuedBy (number_of next) q
+sends-by at a here s q m roles prior next o e role =
+    let sent = sent-behind at a here s q m roles prior next o e role in
+    let b = next sent.0 sent.1 in
+    (sent.0, sent.1, subst (λ n. IsIssuedBy n q) b.number_ (b.tells.granted s q o sent.2))
 
 -- what is known of the node there, which has a neighbour with records b
 pub known : (at : Station) (a b : List Fact) (here : Station → List Fact) → number a ≡ number_of at

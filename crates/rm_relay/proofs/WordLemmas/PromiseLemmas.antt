@@ -1,40 +1,70 @@
 -- A relay keeps its word at each three images.
 use Rattle.std.proofs.Common.{◌≡◌, ◌≤◌, ◌+◌, ℕ, arith, length, Bool, true, false, List, [], ◌∷◌, ◌++◌, sym, ap, ◌∙◌}
-use Rattle.std.proofs.Common.{subst, append-nil, inl, inr}
-use Rattle.std.specs.Prelude.{Option, Some}
+use Rattle.std.proofs.Common.{subst, append-nil, inl, inr, cond, refl}
+use Rattle.std.specs.Prelude.{Option, Some, None}
 use Rattle.std.proofs.lemmas.List.Concat.{flat_map-append}
+use Rattle.rm_sides.specs.Destination.Incoming.{inbox_of, is_whole_by}
+use Rattle.rm_sides.specs.Ranges.Ranges.{in_ranges}
+use Rattle.rm_base.specs.NumberSet.{has_number}
+use Rattle.rm_base.specs.declared.message.Behaviour.{Behaviour}
+use Rattle.rm_base.specs.declared.message.Behaviour.TheVariants.{EntireSequence, FollowingFirstGap, NoDiscard}
+use Rattle.rm_base.specs.declared.message.Payload.{Payload}
 use Rattle.record_batch.specs.Fact.{Fact}
 use Rattle.record_batch.specs.Snapshot.Snapshot.{snapshot}
-use Rattle.record_batch.specs.Sequences.Destinations.{cursor, released, texts}
+use Rattle.record_batch.specs.Sequences.Destinations.{behaviour, cursor, held, received, released, texts, told}
 use Rattle.record_batch.specs.Sequences.Find.{IsIncoming, find_from, incoming_of}
 use Rattle.record_batch.specs.Sequences.Fits.{is_incoming_side, is_outgoing_side}
-use Rattle.record_batch.specs.Sequences.Makers.{Maker, Outgoing, Offered, Incoming, Taken, maker, makers, number}
-use Rattle.record_batch.specs.Sequences.Sources.{accepted, accepted_count}
+use Rattle.record_batch.specs.Sequences.Makers.{Maker, Outgoing, Offered, Incoming, Taken, counter, maker, makers}
+use Rattle.record_batch.specs.Sequences.Makers.{number}
+use Rattle.record_batch.specs.Sequences.Sources.{accepted, accepted_count, acked}
 use Rattle.record_batch.specs.Sequences.Words.{Text}
 use Rattle.rm_protocol.specs.AloneLemmas.{records-alone}
 use Rattle.rm_protocol.specs.Crashes.{IsLeft, IsLeftWith}
+use Rattle.rm_message.specs.declared.message.Message.{Message}
 use Rattle.rm_protocol.specs.Node.{Node, State, Up, Writing, Compacting, entries_left, mounted, records, records_in}
-use Rattle.rm_protocol.specs.Node.{whole_left}
-use Rattle.rm_protocol.specs.Pair.{IsBetweenThem, MadeAreAPair}
+use Rattle.rm_protocol.specs.Node.{node_end, whole_left}
+use Rattle.rm_protocol.specs.Pair.{IsBetweenThem, IsPair, MadeAreAPair}
 use Rattle.rm_protocol.specs.Sound.{IsIssuedBy, Keeps}
 use Rattle.rm_protocol.specs.Terms.{AreTerms, Terms}
-use Rattle.rm_protocol.specs.Word.{IsPrefixOf, Matches}
+use Rattle.rm_protocol.specs.Word.{HasNoSource, IsPrefixOf, Matches}
 use Rattle.rm_relay.specs.Word.Ends.{AreEnds, IsAhead, first_incoming, first_outgoing}
 use Rattle.rm_relay.specs.Word.Roles.{IsOfRole}
 use Rattle.rm_relay.specs.Word.Word.{EachRelayKeepsItsWord, KeepsAll, KeepsRelay, KeepsWord}
 use Rattle.rm_relay.specs.Word.World.{World, Crash, happens, number_of, run, start}
 use Rattle.rm_relay.specs.declared.word.station.Station.TheVariants.{One, Two, Three}
-use Rattle.rm_relay.specs.Word.FirstLemmas.{tested}
+use Rattle.rm_relay.specs.Word.FirstLemmas.{found-side, tested}
 use Rattle.rm_relay.proofs.WordLemmas.ForwardLemmas.{prefix-then}
+use Rattle.rm_relay.proofs.WordLemmas.HopLemmas.{IsSmall, acked-held, none-received}
 use Rattle.rm_relay.proofs.WordLemmas.OrderLemmas.{ordered}
 use Rattle.rm_relay.proofs.WordLemmas.ReleasedLemmas.{has-released}
 use Rattle.rm_relay.proofs.WordLemmas.SoundLemmas.{Saids}
 use Rattle.rm_relay.proofs.WordLemmas.StepLemmas.{happens-sound, none-dropped, run-sound, start-sound}
 use Rattle.rm_relay.proofs.WordLemmas.StrangeLemmas.{role-of}
-use Rattle.rm_relay.proofs.WordLemmas.WorldLemmas.{Laws, Sound, fronts, rears}
+use Rattle.rm_relay.proofs.WordLemmas.WorldLemmas.{Laws, Sound, first-hop, fronts, rears, second-hop}
 
 same-seq : (o : Option ℕ) (x y : ℕ) → o ≡ Some x → o ≡ Some y → x ≡ y
 same-seq o x y e f = cc
+
+-- nothing is released of nothing
+nothing-in : (y : Behaviour) (ns : List ℕ) → inbox_of {A = Payload} y ns [] ≡ []
+nothing-in FollowingFirstGap ns = refl
+nothing-in NoDiscard ns = refl
+nothing-in EntireSequence ns =
+    elim (is_whole_by {A = Payload} ns []) as (λ b. cond {A = List Payload} b [] [] ≡ []) [ true ↦ refl | false ↦ refl ]
+
+no-texts : (ps : List Payload) (rest : List Text) → texts ps ++ rest ≡ [] → ps ≡ []
+no-texts [] rest e = refl
+no-texts (p ∷ ps) rest e = absurd (cc)
+
+-- the second of a pair drew few numbers
+small : (terms : Terms) (n m : ℕ) (x y : Node) (xs ys : List Message) → IsPair terms n m x y xs ys → IsSmall m y.whole
+small terms n m x y xs ys h = record {
+  node = h.numbers.1;
+  drew =
+      let below : counter y.whole ≤ node_end terms y = h.two.bounded.below in
+      let store : node_end terms y ≤ 268435456 = h.two.bounded.store in
+      omega (arith, below, store);
+}
 
 module _ (laws : Laws) (terms : Terms) (w : World) (said : Saids) (h : Sound terms w said) where
   keeps-two : Keeps (records w.two) w.two.whole
@@ -82,6 +112,28 @@ module _ (laws : Laws) (terms : Terms) (w : World) (said : Saids) (h : Sound ter
       by_role (Offered ticket c to y) e made role = absurd role
       by_role (Taken v p k) e made role = absurd role
 
+  -- so was each that it receives on at all
+  into-between : (t : ℕ) → is_incoming_side (maker w.two.whole t) ≡ true → IsBetweenThem w.two.whole w.one.whole t
+  into-between t incoming = by_maker (maker w.two.whole t) (λ m e. e) incoming
+    where
+      by_maker : (o : Option Maker) → ((m : Maker) → o ≡ Some m → maker w.two.whole t ≡ Some m)
+          → is_incoming_side o ≡ true → IsBetweenThem w.two.whole w.one.whole t
+      by_maker None there e = absurd (cc)
+      by_maker (Some (Incoming c v k y l z)) there e =
+          let m = Incoming c v k y l z in
+          let role = role-of Two w.two.whole t m h.two.now (there m refl) in
+          let same : One ≡ role.0 = cc (role.1) in
+          record {
+            maker_ = m;
+            there = there m refl;
+            with_ = subst (λ n. IsIssuedBy n v) (sym h.front.agree.owns.number)
+                (subst (λ at. IsIssuedBy (number_of at) v) (sym same) role.2);
+          }
+      by_maker (Some (Outgoing ticket to via lapse)) there e = absurd (cc)
+      by_maker (Some (Offered ticket c to y)) there e =
+          let m = Offered ticket c to y in absurd (role-of Two w.two.whole t m h.two.now (there m refl))
+      by_maker (Some (Taken v p k)) there e = absurd (cc)
+
   same-first : (test : Option Maker → Bool) (s : ℕ) → find_from (tested test) 0 (makers (records w.two)) ≡ Some s
       → find_from (tested test) 0 (makers w.two.whole) ≡ Some s
   same-first test s e = sym (ap (find_from (tested test) 0) keeps-two.same.frame.makers_) ∙ e
@@ -127,6 +179,40 @@ module _ (laws : Laws) (terms : Terms) (w : World) (said : Saids) (h : Sound ter
       (prefix-then (accepted w.two.whole out) (texts (released w.two.whole into)) (accepted w.one.whole s)
       (forwarded into out ends) front)
 
+  -- without a source node 2 received nothing, so it forwarded nothing, and node 3 has nothing
+  none : (into out t : ℕ) → AreEnds (records w.two) into out → HasNoSource w.one.whole w.two.whole into
+      → Matches w.two.whole w.three.whole out t → released w.three.whole t ≡ []
+  none into out t ends without second =
+      let side = found-side is_incoming_side w.two.whole into (same-first is_incoming_side into ends.incoming) in
+      let empty : received w.two.whole into ≡ [] =
+      none-received w.one.whole w.two.whole into (into-between into side) without w.two.whole
+      h.front.agree.others_justified in
+      let unreleased : released w.two.whole into ≡ [] =
+      ap (λ ms. inbox_of (behaviour w.two.whole into) (told w.two.whole into) ms) empty
+      ∙ nothing-in (behaviour w.two.whole into) (told w.two.whole into) in
+      let sent = forwarded into out ends in
+      let rear = (rears laws terms w said h).0.prefix out t second
+      (third-between t second.ident second.message_id second.incoming)
+      (ordered Three w.three.whole t h.three.now h.three_so.records_) in
+      let all = prefix-then (texts (released w.three.whole t)) (accepted w.two.whole out)
+      (texts (released w.two.whole into)) rear sent in
+      no-texts (released w.three.whole t) all.0 (sym all.1 ∙ ap texts unreleased)
+
+  -- what is acknowledged is held
+  held-second : (s t : ℕ) → Matches w.one.whole w.two.whole s t → (n : ℕ) → in_ranges (acked w.one.whole s) n ≡ true
+      → has_number (held (records w.two) t) n ≡ true
+  held-second s t k =
+      acked-held laws.once 1 2 w.one.whole (records w.two) w.two.whole h.front.agree
+      (small terms 1 2 w.one w.two said.one said.two h.front) h.front.one.stands.kept.live keeps-two s t
+      (first-hop laws terms w said h s k.ident k.outgoing) k
+
+  held-third : (s t : ℕ) → Matches w.two.whole w.three.whole s t → (n : ℕ)
+      → in_ranges (acked (records w.two) s) n ≡ true → has_number (held (records w.three) t) n ≡ true
+  held-third s t k n e =
+      acked-held laws.once 2 3 w.two.whole (records w.three) w.three.whole h.rear.agree
+      (small terms 2 3 w.two w.three said.two said.three h.rear) keeps-two.live h.rear.two.stands.kept s t
+      (second-hop laws terms w said h s k.ident k.outgoing) k n (sym ((keeps-two.same.sent s).acked_ n) ∙ e)
+
   pub keeps-relay : KeepsRelay w.one.whole (records w.two) w.two.whole (records w.three) w.three.whole
   keeps-relay = record {
     second = λ t. (
@@ -140,6 +226,9 @@ module _ (laws : Laws) (terms : Terms) (w : World) (said : Saids) (h : Sound ter
     forwarded = forwarded;
     ahead = ahead;
     relayed = relayed;
+    none = none;
+    held_second = held-second;
+    held_third = held-third;
   }
 
 -- ---- at images

@@ -8,12 +8,15 @@ use Rattle.rm_base.specs.declared.message.Behaviour.TheVariants.{FollowingFirstG
 use Rattle.rm_protocol.specs.Announced.{AnnouncesOnly, AnnouncesStill, IsNoGrant}
 use Rattle.rm_protocol.specs.Consumed.{GoesOn}
 use Rattle.rm_protocol.specs.Node.{Node, Writing}
-use Rattle.rm_protocol.specs.Pair.{APairTells, Act, AreBrought, Gained, IsPair}
+use Rattle.rm_protocol.specs.Pair.{APairTells, Act, AreBrought, Gained, IsBetweenThem, IsPair}
 use Rattle.rm_protocol.specs.Pair.{IssuedByOne, MayBefall, MayGoOn, PairStep, PairsTurn, StaysAPair}
 use Rattle.rm_protocol.specs.Pair.{TellsOf}
 use Rattle.rm_protocol.specs.Pair.{acted, left}
 use Rattle.rm_sides.specs.Ranges.Laws.{EndsAreRight}
 use Rattle.record_batch.specs.Snapshot.Same.{IsLive, SetsUnite}
+use Rattle.record_batch.specs.Sequences.Find.{IsOutgoing}
+use Rattle.record_batch.specs.Sequences.Idents.{IssuesOnce}
+use Rattle.record_batch.specs.Sequences.Words.{Text}
 use Rattle.rm_protocol.specs.Exact.{AckedWereAccepted}
 use Rattle.rm_protocol.specs.Sound.{NothingIsGone, Says}
 use Rattle.rm_protocol.specs.Terms.{AreTerms, Terms}
@@ -23,12 +26,13 @@ use Rattle.rm_relay.specs.Word.World.{World, moves, node, packets_of}
 use Rattle.rm_relay.specs.declared.word.station.Station.{Station}
 use Rattle.rm_relay.specs.declared.word.station.Station.TheVariants.{One, Two, Three}
 use Rattle.rm_relay.proofs.WordLemmas.ForwardLemmas.{HasRelayed, MayRelay, relayed-add}
-use Rattle.rm_relay.proofs.WordLemmas.KnownLemmas.{Beside, known}
+use Rattle.rm_relay.proofs.WordLemmas.KnownLemmas.{Beside, known, sent-behind}
 use Rattle.rm_relay.proofs.WordLemmas.RoleLemmas.{JustGranted, RoleFact, RoleNow, all-behind, allowed-just, just-all}
 use Rattle.rm_relay.proofs.WordLemmas.RoleLemmas.{role-step}
 use Rattle.rm_relay.proofs.WordLemmas.SoundLemmas.{IsRight, Saids, all-puts, among-from, packets-right, right-grows}
 use Rattle.rm_relay.proofs.WordLemmas.SoundLemmas.{said_at}
 use Rattle.rm_relay.proofs.WordLemmas.SoundLemmas.{says_more}
+use Rattle.rm_relay.proofs.WordLemmas.StrangeLemmas.{role-of}
 use Rattle.rm_relay.proofs.WordLemmas.TrimLemmas.{HasTrimmed, MayTrim, trimmed-add}
 
 -- the laws of two nodes
@@ -41,6 +45,7 @@ pub record Laws : Type 0 where
   pub ends : EndsAreRight
   pub sets : SetsUnite
   pub within : AckedWereAccepted
+  pub once : IssuesOnce
 
 -- each node and the one behind it are a pair, and all packets are what their senders said; each node has its role; both
 -- 2 and 3 announce DiscardFollowingFirstGap; and what node 2 forwarded is a prefix of what it received, and what it
@@ -115,6 +120,25 @@ module _ (laws : Laws) (terms : Terms) (w : World) (said : Saids) (h : Sound ter
       h.three.now rears.1 h.rear.agree.others.made
       (λ z e. let same : Two ≡ z = cc in subst (λ s. Beside s w.three.whole (wholes w s)) same three-two)
       (λ z e. absurd (cc))
+
+  -- what node 1 sends on is for node 2
+  pub first-hop : (s : ℕ) (q : Text) → IsOutgoing w.one.whole s q → IsBetweenThem w.one.whole w.two.whole s
+  first-hop s q o =
+      let m = h.front.agree.owns.made s q o in
+      let sent = sent-behind One w.one.whole (wholes w) s q m.0 h.one.now (λ z e. absurd (cc))
+      (λ z e. let same : Two ≡ z = cc in subst (λ y. Beside y w.one.whole (wholes w y)) same one-two) o m.1
+      (role-of One w.one.whole s m.0 h.one.now m.1) in
+      let same : sent.0 ≡ Two = cc (sent.1) in subst (λ z. IsBetweenThem w.one.whole (wholes w z) s) same sent.2
+
+  -- and what node 2 sends on is for node 3
+  pub second-hop : (s : ℕ) (q : Text) → IsOutgoing w.two.whole s q → IsBetweenThem w.two.whole w.three.whole s
+  second-hop s q o =
+      let m = h.rear.agree.owns.made s q o in
+      let sent = sent-behind Two w.two.whole (wholes w) s q m.0 h.two.now
+      (λ z e. let same : One ≡ z = cc in subst (λ y. Beside y w.two.whole (wholes w y)) same two-one)
+      (λ z e. let same : Three ≡ z = cc in subst (λ y. Beside y w.two.whole (wholes w y)) same two-three) o m.1
+      (role-of Two w.two.whole s m.0 h.two.now m.1) in
+      let same : sent.0 ≡ Three = cc (sent.1) in subst (λ z. IsBetweenThem w.two.whole (wholes w z) s) same sent.2
 
   pub known-at : (at : Station) → Known at (wholes w at)
   known-at One = known-one

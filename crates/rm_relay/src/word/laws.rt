@@ -2,6 +2,7 @@
 ghost use Rattle.rm_relay.specs.Word.Roles.{IsStrangeToTheOthers};
 ghost use Rattle.rm_relay.specs.Word.Word.{EachRelayKeepsItsWord};
 
+use record_batch::sequences::laws::one_number_one_identifier;
 use record_batch::snapshot::laws::sets_unite;
 use rm_protocol::laws::{
     a_pair_tells, a_pair_turns, an_identifier_tells_its_node, two_made_nodes_are_a_pair,
@@ -19,9 +20,10 @@ pub fn what_one_says_is_strange_to_the_others()
 }
 
 /// Whatever is sent, forwarded, trimmed, lost, repeated and reordered, and whichever node crashes at whichever device
-/// call: what node 2 forwarded is a prefix of what it received, and what node 3 has is one of what node 1 accepted.
-/// Node 2 consumed no more than it accepted, so the item that is to be forwarded is there once it came. It is so at
-/// each three images of the disks.
+/// call: what node 2 forwarded is a prefix of what it received, and what node 3 has is one of what node 1 accepted, and
+/// nothing where node 1 has no sequence that node 2's first incoming one matches. Node 2 consumed no more than it
+/// accepted, so the item that is to be forwarded is there once it came. Each number that node 1 counts as acknowledged
+/// node 2 received, and each that node 2 does node 3 received. It is so at each three images of the disks.
 pub fn every_relay_keeps_its_word()
     ensures { EachRelayKeepsItsWord }
 {
@@ -34,4 +36,5 @@ pub fn every_relay_keeps_its_word()
     ends_are_right();
     sets_unite();
     what_is_acknowledged_was_accepted();
+    one_number_one_identifier();
 }

@@ -11,4 +11,5 @@ returns c = each-relay (record {
   ends = c.ends_are_right.ensures;
   sets = c.sets_unite.ensures;
   within = c.what_is_acknowledged_was_accepted.ensures;
+  once = c.one_number_one_identifier.ensures;
 }) c.two_made_nodes_are_a_pair.ensures
