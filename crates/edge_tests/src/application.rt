@@ -77,9 +77,10 @@ fn ends_so(answer: &[u8], content: &[u8]) -> bool {
 }
 
 fn has(bytes: &[u8], part: &[u8]) -> bool {
-    bytes
-        .windows(part.len().max(1))
-        .any(|window| window.eq_ignore_ascii_case(part))
+    part.is_empty()
+        || bytes
+            .windows(part.len().max(1))
+            .any(|window| window.eq_ignore_ascii_case(part))
 }
 
 #[test]

@@ -92,9 +92,10 @@ fn is_posted(note: &Note, part: &[u8]) -> bool {
 }
 
 fn has(bytes: &[u8], part: &[u8]) -> bool {
-    bytes
-        .windows(part.len().max(1))
-        .any(|window| window == part)
+    part.is_empty()
+        || bytes
+            .windows(part.len().max(1))
+            .any(|window| window == part)
 }
 
 // Two messages of a peer are acknowledged; a payload of the application is accepted once its sequence is open, and what
