@@ -1,4 +1,6 @@
+mod AcceptLemmas
 mod CallLemmas
 mod OutLemmas
+mod ReadLemmas
 mod RunLemmas
 mod SaidLemmas

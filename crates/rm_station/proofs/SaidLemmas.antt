@@ -1,64 +1,80 @@
 -- What an application is told.
-use Rattle.std.proofs.Common.{◌≡◌, ◌⊎◌, ℕ, true, false, List, [], ◌∷◌, inl, inr, refl, subst, sym, ap}
-use Rattle.std.specs.Prelude.{Some, IfErr, IfOk, OnOk, Result, Ok, Err}
-use Rattle.node_tables.specs.Reads.{outgoing_in}
-use Rattle.record_batch.specs.Fact.{Fact}
-use Rattle.rm_node.specs.Asked.{Asked}
+use Rattle.std.proofs.Common.{◌≡◌, ◌⊎◌, ℕ, true, false, List, [], ◌∷◌, inl, inr, refl, subst, sym, ap, ◌∙◌}
+use Rattle.std.specs.Prelude.{Option, IfErr, IfOk, OnOk, Result, Ok, Err, Some}
+use Rattle.node_store.specs.Stored.{Stored}
+use Rattle.rm_serve.specs.Steps.{Step}
 use Rattle.rm_node.specs.declared.calls.Made.{Made}
 use Rattle.rm_node.specs.declared.calls.Sent.{Sent}
 use Rattle.rm_node.specs.declared.packets.Out.{Out}
 use Rattle.rm_host.specs.Ends.{is_of_call, is_refusal}
-use Rattle.rm_host.specs.HostSteps.{outs_in, own_step}
-use Rattle.rm_host.specs.Sequences.{IsFirstTo, is_open}
+use Rattle.rm_host.specs.HostSteps.{outs_in}
 use Rattle.rm_host.specs.Texts.{line_of}
 use Rattle.rm_host.specs.Words.{ReadsAddress}
 use Rattle.rm_host.specs.declared.end.End.{End}
 use Rattle.rm_host.specs.declared.end.End.TheVariants as end
-use Rattle.rm_station.specs.Asks.{Offered}
-use Rattle.rm_station.specs.Texts.{accepted_line, opening_line, stopping_line}
-use Rattle.rm_station.specs.Works.{Calls, Tells, called, is_memory, is_outlived, lacks, only, said_failed, said_of}
-use Rattle.rm_station.specs.Works.{starves, stops, unread, waits}
-use Rattle.rm_station.specs.declared.ask.Ask.TheVariants.{Offers, Stops}
+use Rattle.rm_station.specs.Asks.{Offered, Polled}
+use Rattle.rm_station.specs.Reads.{read_answer}
+use Rattle.rm_station.specs.Texts.{accepted_line, opening_line}
+use Rattle.rm_station.specs.Works.{Tells, is_memory, is_outlived, lacks, only, said_failed, said_of}
+use Rattle.rm_station.specs.Works.{said_read, starves, unread, views}
+use Rattle.rm_station.specs.declared.ask.Ask.{Ask}
+use Rattle.rm_station.specs.declared.ask.Next.{Next}
 use Rattle.rm_station.specs.declared.said.Said.{Said}
 
 -- a word that is no address that can be reached
-pub offered-not : (word payload : List ℕ) (e : End) → ReadsAddress word (Err e) → Offered word payload (Err e)
-offered-not word payload end.Usage reads = reads
-offered-not word payload end.BadAddress reads = reads
-offered-not word payload end.Memory reads = tt
-offered-not word payload e reads = absurd reads
+pub offered-not : (word payload : List ℕ) (next : Option Next) (e : End) → ReadsAddress word (Err e)
+    → Offered word payload next (Err e)
+offered-not word payload next end.Usage reads = reads
+offered-not word payload next end.BadAddress reads = reads
+offered-not word payload next end.Memory reads = tt
+offered-not word payload next e reads = absurd reads
 
-pub tells-unread : (r : List Fact) (e : End) (result : Result Said End)
+pub polled-not : (word : List ℕ) (e : End) → ReadsAddress word (Err e) → Polled word (Err e)
+polled-not word end.Usage reads = reads
+polled-not word end.BadAddress reads = reads
+polled-not word end.Memory reads = tt
+polled-not word e reads = absurd reads
+
+pub tells-unread : (moment : ℕ) (s : Stored) (e : End) (result : Result Said End)
     → IfOk result (λ said. (is_memory e ≡ false) × (said ≡ only (line_of e))) → IfErr result (λ w. w ≡ end.Memory)
-    → Tells r (Err e) [] result
-tells-unread r e (Ok said) ok err = subst (λ (s : Said). Tells r (Err e) [] (Ok s)) (sym ok.1) (unread e ok.0)
-tells-unread r e (Err w) ok err = subst (λ (x : End). Tells r (Err e) [] (Err x)) (sym err) (starves (Err e))
+    → Tells moment s (Err e) [] result
+tells-unread moment s e (Ok said) ok err =
+    subst (λ (x : Said). Tells moment s (Err e) [] (Ok x)) (sym ok.1) (unread e ok.0)
+tells-unread moment s e (Err w) ok err =
+    subst (λ (x : End). Tells moment s (Err e) [] (Err x)) (sym err) (starves (Err e))
 
-pub tells-stop : (r : List Fact) (result : Result Said End)
-    → (result ≡ Ok (record { text = stopping_line; outs = []; is_stop = true })) ⊎ (result ≡ Err end.Memory)
-    → Tells r (Ok Stops) [] result
-tells-stop r result (inl same) = subst (λ s. Tells r (Ok Stops) [] s) (sym same) stops
-tells-stop r result (inr none) = subst (λ s. Tells r (Ok Stops) [] s) (sym none) (starves (Ok Stops))
+-- what is told, or memory was wanting
+pub tells-so : (moment : ℕ) (s : Stored) (ask : Result Ask End) (steps : List Step) (said result : Result Said End)
+    → Tells moment s ask steps said → (result ≡ said) ⊎ (result ≡ Err end.Memory) → Tells moment s ask steps result
+tells-so moment s ask steps said result tells (inl same) =
+    subst (λ (x : Result Said End). Tells moment s ask steps x) (sym same) tells
+tells-so moment s ask steps said result tells (inr none) =
+    subst (λ (x : Result Said End). Tells moment s ask steps x) (sym none) (lacks ask steps said tells)
 
-pub tells-called : (r : List Fact) (to payload : List ℕ) (asked : Asked) (line : List ℕ)
-    (outs : Result (List Out) End) (result : Result Said End) → Calls r to payload asked line
-    → IfErr outs (λ e. is_of_call e ≡ true) → (result ≡ said_of line outs) ⊎ (result ≡ Err end.Memory)
-    → Tells r (Ok (Offers to payload)) (own_step 0 asked outs ∷ []) result
-tells-called r to payload asked line outs result calls of_call (inl same) =
-    subst (λ s. Tells r (Ok (Offers to payload)) (own_step 0 asked outs ∷ []) s) (sym same)
-    (called to payload asked line outs calls of_call)
-tells-called r to payload asked line outs result calls of_call (inr none) =
-    subst (λ s. Tells r (Ok (Offers to payload)) (own_step 0 asked outs ∷ []) s) (sym none)
-    (lacks _ _ _ (called to payload asked line outs calls of_call))
+-- what is read
+pub read-so : (moment : ℕ) (s : Stored) (ask : Ask) (answer read : Result (List ℕ) End) (result : Result Said End)
+    → read_answer moment s ask ≡ Some answer → (read ≡ Err end.Memory) ⊎ (read ≡ answer)
+    → (result ≡ said_read read) ⊎ (result ≡ Err end.Memory) → Tells moment s (Ok ask) [] result
+read-so moment s ask answer read result reading is (inr none) =
+    subst (λ (x : Result Said End). Tells moment s (Ok ask) [] x) (sym none) (starves (Ok ask))
+read-so moment s ask answer read result reading (inl none) (inl said) =
+    subst (λ (x : Result Said End). Tells moment s (Ok ask) [] x) (sym (said ∙ ap said_read none)) (starves (Ok ask))
+read-so moment s ask answer read result reading (inr same) (inl said) =
+    subst (λ (x : Result Said End). Tells moment s (Ok ask) [] x) (sym (said ∙ ap said_read same))
+    (views ask answer reading)
 
-pub tells-waits : (r : List Fact) (to payload : List ℕ) (seq : ℕ) (result : Result Said End)
-    → IsFirstTo r to (Some seq) → is_open (outgoing_in r seq) ≡ false
-    → (result ≡ Ok (only (opening_line seq))) ⊎ (result ≡ Err end.Memory)
-    → Tells r (Ok (Offers to payload)) [] result
-tells-waits r to payload seq result first shut (inl same) =
-    subst (λ s. Tells r (Ok (Offers to payload)) [] s) (sym same) (waits to payload seq first shut)
-tells-waits r to payload seq result first shut (inr none) =
-    subst (λ s. Tells r (Ok (Offers to payload)) [] s) (sym none) (starves (Ok (Offers to payload)))
+-- memory was wanting before any call
+pub tells-none : (moment : ℕ) (s : Stored) (ask : Result Ask End) (result : Result Said End) → result ≡ Err end.Memory
+    → Tells moment s ask [] result
+tells-none moment s ask result none =
+    subst (λ (x : Result Said End). Tells moment s ask [] x) (sym none) (starves ask)
+
+-- what is said of a call, by its line
+pub line-said : (text line : List ℕ) (outs : Result (List Out) End) (result : Result Said End) → text ≡ line
+    → (result ≡ said_of text outs) ⊎ (result ≡ Err end.Memory)
+    → (result ≡ said_of line outs) ⊎ (result ≡ Err end.Memory)
+line-said text line outs result same said =
+    subst (λ (t : List ℕ). (result ≡ said_of t outs) ⊎ (result ≡ Err end.Memory)) same said
 
 -- what is said of a payload, by the number that it gets
 pub sent-said : (seq n : ℕ) (sent : Result Sent End) (result : Result Said End)

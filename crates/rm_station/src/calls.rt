@@ -3,7 +3,7 @@ ghost use Rattle.std.specs.Prelude.{◌≡◌, ◌≤◌, [], ◌∷◌, ◌+◌
 ghost use Rattle.record_batch.specs.Sequences.Makers.{makers};
 ghost use Rattle.record_batch.specs.Sequences.Sources.{accepted_count};
 ghost use Rattle.rm_base.specs.Limits.{now_max};
-ghost use Rattle.rm_node.specs.Asked.{Create, Send, Tick};
+ghost use Rattle.rm_node.specs.Asked.{Close, Consume, Create, End as Finish, Poll, Send, Tick};
 ghost use Rattle.rm_serve.specs.Steps.{IsUp, MakesAll, Step, place_of};
 ghost use Rattle.node_store.specs.declared.error.MountError.{MountError};
 ghost use Rattle.rm_host.specs.Ends.{is_of_call, mount_end};
@@ -79,6 +79,62 @@ fn wish(to: Uri) -> Wish
         expires: Lapse { months: 0, ms: 0 },
         offer: None,
     }
+}
+
+/// Closes a sequence. A node that refuses it is up as before.
+pub(crate) fn close<D: Disk>(node: &mut Node, disk: &mut D, seq: u32, now: u64) -> Result<Outs, End>
+    requires up { IsUp D.tells (place_of (D.told disk.old) node.old) }
+    ensures up { is_outlived result ≡ true → IsUp D.tells (place_of (D.told disk.new) node.new) }
+    ensures makes { MakesAll D.tells (place_of (D.told disk.old) node.old) (place_of (D.told disk.new) node.new)
+        (own_step now (Close seq) result ∷ []) }
+    ensures of_call { IfErr result (λ e. is_of_call e ≡ true) }
+{
+    a_node_stays_up();
+    Ok(node.close(disk, seq, now)?)
+}
+
+/// Ends a sequence. A node that refuses it is up as before.
+pub(crate) fn end<D: Disk>(node: &mut Node, disk: &mut D, seq: u32) -> Result<Outs, End>
+    requires up { IsUp D.tells (place_of (D.told disk.old) node.old) }
+    ensures up { is_outlived result ≡ true → IsUp D.tells (place_of (D.told disk.new) node.new) }
+    ensures makes { MakesAll D.tells (place_of (D.told disk.old) node.old) (place_of (D.told disk.new) node.new)
+        (own_step 0 (Finish seq) result ∷ []) }
+    ensures of_call { IfErr result (λ e. is_of_call e ≡ true) }
+{
+    a_node_stays_up();
+    Ok(node.end(disk, seq)?)
+}
+
+/// Asks the node at an address for what waits there. A node that refuses it is up as before.
+pub(crate) fn poll<D: Disk>(node: &mut Node, disk: &mut D, to: Uri) -> Result<Outs, End>
+    requires up { IsUp D.tells (place_of (D.told disk.old) node.old) }
+    ensures up { is_outlived result ≡ true → IsUp D.tells (place_of (D.told disk.new) node.new) }
+    ensures makes { MakesAll D.tells (place_of (D.told disk.old) node.old) (place_of (D.told disk.new) node.new)
+        (own_step 0 (Poll to) result ∷ []) }
+    ensures of_call { IfErr result (λ e. is_of_call e ≡ true) }
+{
+    a_node_stays_up();
+    Ok(node.poll(disk, to)?)
+}
+
+/// Records that the items of an inbox up to one were consumed, and hands nothing out. A node that refuses it is up as
+/// before.
+pub(crate) fn consume<D: Disk>(
+    alloc: Global,
+    node: &mut Node,
+    disk: &mut D,
+    seq: u32,
+    upto: u64,
+) -> Result<Outs, End>
+    requires up { IsUp D.tells (place_of (D.told disk.old) node.old) }
+    ensures up { is_outlived result ≡ true → IsUp D.tells (place_of (D.told disk.new) node.new) }
+    ensures makes { MakesAll D.tells (place_of (D.told disk.old) node.old) (place_of (D.told disk.new) node.new)
+        (own_step 0 (Consume seq upto) result ∷ []) }
+    ensures of_call { IfErr result (λ e. is_of_call e ≡ true) }
+{
+    a_node_stays_up();
+    node.consume(disk, seq, upto)?;
+    Ok(Outs::new(alloc))
 }
 
 /// Takes the body of a response, unless it is empty.

@@ -81,8 +81,9 @@ impl<D: Disk, C: Clock> Desk for Station<D, C> {
     }
 
     fn tell<K: Connection>(&mut self, conn: &mut K) -> Result<Packets, End> {
-        self.seen = self.clock.now();
-        let (outs, is_stop) = talk(self.alloc, &mut self.node, &mut self.disk, conn);
+        let now = self.clock.now();
+        self.seen = now;
+        let (outs, is_stop) = talk(self.alloc, &mut self.node, &mut self.disk, conn, now);
         self.is_stopped = is_either(is_stop, self.is_stopped);
         pack(self.alloc, outs)
     }
@@ -128,20 +129,21 @@ fn talk<D: Disk, K: Connection>(
     node: &mut Node,
     disk: &mut D,
     conn: &mut K,
+    now: u64,
 ) -> (Result<Outs, End>, bool)
     requires up { IsUp D.tells (place_of (D.told disk.old) node.old) }
     ensures talks { (steps : List Step) × MakesAll D.tells (place_of (D.told disk.old) node.old)
         (place_of (D.told disk.new) node.new) steps
-        × Talks node.old.stored.records (K.Source.told conn.old) (K.Source.told conn.new) steps result.0 result.1 }
+        × Talks now node.old.stored (K.Source.told conn.old) (K.Source.told conn.new) steps result.0 result.1 }
     ensures up { OnOk result.0 (IsUp D.tells (place_of (D.told disk.new) node.new)) }
 {
     match read_up_to(alloc, conn, REQUEST_BYTES) {
         Ok(bytes) => {
-            let said = obey(alloc, node, disk, ask_of(alloc, bytes.as_slice()));
+            let said = obey(alloc, node, disk, now, ask_of(alloc, bytes.as_slice()));
             answer(conn, said)
         }
         Err(ReadError::TooLong) => {
-            let said = obey(alloc, node, disk, Err(End::TooLong));
+            let said = obey(alloc, node, disk, now, Err(End::TooLong));
             answer(conn, said)
         }
         Err(ReadError::Failed) => (Ok(Outs::new(alloc)), false),

@@ -8,18 +8,18 @@ pub returns-in-Some : goal.returns-in-Some
 returns-in-Some c =
     let cut = c.cut.ensures in
     let line = c.cut.result.0.now in
-    subst (λ (l : List ℕ). AskedBy l (behind_line c.args.bytes.now) (behind (codes "send ") l) c.offer_of.result)
+    subst (λ (l : List ℕ). AskedBy l (behind_line c.args.bytes.now) (behind (codes "send ") l) c.send_of.result)
     cut.before
-    (subst (λ (p : List ℕ). AskedBy line p (behind (codes "send ") line) c.offer_of.result) cut.after
-    (subst (λ (o : Option (List ℕ)). AskedBy line c.cut.result.1.now o c.offer_of.result) c.in-Some.ensures
-    c.offer_of.ensures))
+    (subst (λ (p : List ℕ). AskedBy line p (behind (codes "send ") line) c.send_of.result) cut.after
+    (subst (λ (o : Option (List ℕ)). AskedBy line c.cut.result.1.now o c.send_of.result) c.in-Some.ensures
+    c.send_of.ensures))
 
 pub returns-in-None : goal.returns-in-None
 returns-in-None c =
     let cut = c.cut.ensures in
     let line = c.cut.result.0.now in
-    subst (λ (l : List ℕ). AskedBy l (behind_line c.args.bytes.now) (behind (codes "send ") l) c.bare_of.result)
+    subst (λ (l : List ℕ). AskedBy l (behind_line c.args.bytes.now) (behind (codes "send ") l) c.unsent_of.result)
     cut.before
-    (subst (λ (p : List ℕ). AskedBy line p (behind (codes "send ") line) c.bare_of.result) cut.after
-    (subst (λ (o : Option (List ℕ)). AskedBy line c.cut.result.1.now o c.bare_of.result) c.in-None.ensures
-    c.bare_of.ensures))
+    (subst (λ (p : List ℕ). AskedBy line p (behind (codes "send ") line) c.unsent_of.result) cut.after
+    (subst (λ (o : Option (List ℕ)). AskedBy line c.cut.result.1.now o c.unsent_of.result) c.in-None.ensures
+    c.unsent_of.ensures))

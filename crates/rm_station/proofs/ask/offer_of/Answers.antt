@@ -11,6 +11,7 @@ pub returns-in_err-to : goal.returns-in_err-to
 returns-in_err-to c =
     let p = err_from_is_err_and c.from_residual-in_err-to.result c.from_residual-in_err-to.ensures.1 in
     let e = c.in_err-to.field-0.0 in
-    subst (λ (r : Result Ask End). Offered c.args.word.now c.args.payload.now r) (sym (p.1 ∙ ap Err p.2))
-    (subst (λ (w : List ℕ). Offered w c.args.payload.now (Err e)) c.in_ok-word.ensures
-    (offered-not _ c.args.payload.now e c.in_err-to.ensures))
+    let a = c.args in
+    subst (λ (r : Result Ask End). Offered a.word.now a.payload.now a.next r) (sym (p.1 ∙ ap Err p.2))
+    (subst (λ (w : List ℕ). Offered w a.payload.now a.next (Err e)) c.in_ok-word.ensures
+    (offered-not _ a.payload.now a.next e c.in_err-to.ensures))

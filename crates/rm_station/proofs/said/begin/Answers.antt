@@ -1,17 +1,21 @@
-use Rattle.std.proofs.Common.{◌+◌, length}
+use Rattle.std.proofs.Common.{◌+◌, Ok, length}
 use Rattle.record_batch.specs.Sequences.Makers.{makers}
-use Rattle.rm_station.specs.Works.{begins}
-use Rattle.rm_station.proofs.SaidLemmas.{made-said, of-outs, tells-called, up-outlived}
+use Rattle.rm_station.specs.Works.{begins, called}
+use Rattle.rm_station.specs.declared.ask.Ask.TheVariants.{Offers}
+use Rattle.rm_station.proofs.SaidLemmas.{made-said, of-outs, tells-so, up-outlived}
 use Rattle.rm_station.proofs.said.begin.Goals as goal
 
 pub returns-clause-tells : goal.returns-clause-tells
 returns-clause-tells g c =
-    let r = c.args.node.now.stored.records in (
+    let a = c.args in
+    let s = a.node.now.stored in
+    let made = c.create-made in (
       _,
-      c.create-made.ensures.makes,
-      tells-called r c.args.to c.args.payload.now _ _ _ c.said_made.result (begins c.requires.first)
-          (of-outs (λ m. m.outs) c.create-made.result c.create-made.ensures.of_call)
-          (made-said (length (makers r) + 1) c.create-made.result c.said_made.result c.create-made.ensures.seq
+      made.ensures.makes,
+      tells-so a.now s (Ok (Offers a.to a.next a.payload.now)) _ _ c.said_made.result
+          (called (Offers a.to a.next a.payload.now) _ _ _ (begins a.to a.payload.now a.next c.requires.first)
+          (of-outs (λ m. m.outs) made.result made.ensures.of_call))
+          (made-said (length (makers s.records) + 1) made.result c.said_made.result made.ensures.seq
           c.said_made.ensures.ok c.said_made.ensures.err),
     )
 

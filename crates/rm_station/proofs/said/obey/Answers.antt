@@ -13,15 +13,15 @@ returns-in-Ok-clause-tells g c =
     let t = c.heed.ensures.tells in (
       t.0,
       t.1,
-      subst (λ (a : Result Ask End). Tells c.args.node.now.stored.records a t.0 c.heed.result) (sym c.in-Ok.is) t.2,
+      subst (λ (a : Result Ask End). Tells c.args.now c.args.node.now.stored a t.0 c.heed.result) (sym c.in-Ok.is) t.2,
     )
 
 pub returns-in-Err-clause-tells : goal.returns-in-Err-clause-tells
 returns-in-Err-clause-tells g c =
     let x = place_of (g.D.Disk.told c.args.disk.now) c.args.node.now in
-    let r = c.args.node.now.stored.records in (
+    let s = x.node.stored in (
       [],
       no-step g.D.Disk.tells x x (record { node = refl; told = λ t. refl }),
-      subst (λ (a : Result Ask End). Tells r a [] c.unread.result) (sym c.in-Err.is)
-          (tells-unread r c.in-Err.end c.unread.result c.unread.ensures.ok c.unread.ensures.err),
+      subst (λ (a : Result Ask End). Tells c.args.now s a [] c.unread.result) (sym c.in-Err.is)
+          (tells-unread c.args.now s c.in-Err.end c.unread.result c.unread.ensures.ok c.unread.ensures.err),
     )

@@ -17,7 +17,7 @@ returns-in-Ok-clause-talks g c =
     let asks = subst (λ (b : List ℕ). AsksFor b c.ask_of.result) c.as_slice.ensures c.ask_of.ensures in (
       t.0,
       t.1,
-      subst (λ (b : Bool). Talks c.args.node.now.stored.records old new t.0 c.answer.result.0 b)
+      subst (λ (b : Bool). Talks c.args.now c.args.node.now.stored old new t.0 c.answer.result.0 b)
           (sym c.answer.ensures.stop)
           (talks mid c.in-Ok.bytes c.ask_of.result t.0 c.obey-said.result c.answer.result.0 c.read_up_to.ensures.keeps
           c.in-Ok.ensures.whole asks t.2 c.answer.ensures.answers),
@@ -36,7 +36,7 @@ returns-in-Err-TooLong-clause-talks g c =
     let new = told c.answer-in-Err-TooLong.new.conn in (
       t.0,
       t.1,
-      subst (λ (b : Bool). Talks c.args.node.now.stored.records old new t.0 c.answer-in-Err-TooLong.result.0 b)
+      subst (λ (b : Bool). Talks c.args.now c.args.node.now.stored old new t.0 c.answer-in-Err-TooLong.result.0 b)
           (sym c.answer-in-Err-TooLong.ensures.stop)
           (long mid t.0 c.obey-said-in-Err-TooLong.result c.answer-in-Err-TooLong.result.0
           c.read_up_to.ensures.keeps t.2 c.answer-in-Err-TooLong.ensures.answers),
@@ -53,7 +53,7 @@ returns-in-Err-Failed-clause-talks g c =
     let x = place_of (g.D.Disk.told c.args.disk.now) c.args.node.now in (
       [],
       no-step g.D.Disk.tells x x (record { node = refl; told = λ t. refl }),
-      subst (λ (o : List Out). Talks x.node.stored.records (told c.args.conn.now) (told c.read_up_to.new.input) []
+      subst (λ (o : List Out). Talks c.args.now x.node.stored (told c.args.conn.now) (told c.read_up_to.new.input) []
           (Ok o) false) (sym c.new.ensures) (lost c.read_up_to.ensures.keeps),
     )
 

@@ -19,7 +19,7 @@ returns-clause-does g c =
       outs = c.outs_served.result;
       stop = false;
       makes = t.1;
-      acts = subst (λ (o : Result (List Out) End). Acts (g.C.Clock.next s.clock) s.node.stored.records
+      acts = subst (λ (o : Result (List Out) End). Acts (g.C.Clock.next s.clock) s.node.stored
           (Served old new) t.0 o false) (sym c.outs_served.ensures)
           (serves c.now-now.result old new t.0 c.serve_one-served.result c.now-now.ensures.told t.2);
       packs = c.pack.ensures;

@@ -10,10 +10,10 @@ returns-clause-does g c =
       outs = c.talk-outs.result.0;
       stop = c.talk-outs.result.1;
       makes = t.1;
-      acts = tells _ _ t.0 c.talk-outs.result.0 c.talk-outs.result.1 t.2;
+      acts = tells c.now-now.result _ _ t.0 c.talk-outs.result.0 c.talk-outs.result.1 c.now-now.ensures.told t.2;
       packs = c.pack.ensures;
       stopped = c.is_either-self.ensures;
-      clock = c.now-self.ensures.still;
+      clock = c.now-now.ensures.still;
     }
 
 pub returns-clause-ready : goal.returns-clause-ready
