@@ -91,7 +91,7 @@ pub fn health(alloc: Global) -> Result<Blob, End>
 }
 
 /// What is fetched, from the first item that was not consumed on, are the items of the inbox that the records have, in
-/// order, and none else.
+/// order, and none else. The headline says that none of these is gone.
 pub fn what_is_fetched_is_the_inbox()
     ensures { FetchedIsTheInbox }
 {
