@@ -77,7 +77,7 @@ fn obey<S: Source, K: Sink, M: CrashDisk, W: Wire>(
     stage: &mut Stage<M, W>,
 ) -> End
     requires fresh { IsFresh (scene_of M.told W.packets stage.old) }
-    ensures runs { Runs words.now result (edge_of S.told K.told K.wants_memory input.old input.new out.old out.new)
+    ensures { Runs words.now result (edge_of S.told K.told K.wants_memory input.old input.new out.old out.new)
         (staged_of M.told W.packets stage.old) (staged_of M.told W.packets stage.new) }
 {
     match command_of(words) {

@@ -2,8 +2,8 @@ use Rattle.std.proofs.Common.{refl, arith}
 use Rattle.rm_command.proofs.SoakLemmas.{soak_runs}
 use Rattle.rm_command.proofs.command.obey.Goals as goal
 
-pub returns-in-Some-Soak-clause-runs : goal.returns-in-Some-Soak-clause-runs
-returns-in-Some-Soak-clause-runs g c =
+pub returns-in-Some-Soak : goal.returns-in-Some-Soak
+returns-in-Some-Soak g c =
     soak_runs c.args.words.now c.in-Some-Soak.number c.soak.result _ _ _
     (rw c.in-Some-Soak.field-0-is at c.in-Some-Soak.ensures)
     (record { ends = c.soak.ensures.ends; unread = refl })
