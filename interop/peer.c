@@ -2,8 +2,8 @@
 
    peer client TO STEP ..       does one step after the other, prints what came of each, and then the sequence's
                                 identifier and how many messages are not acknowledged. Steps: create, offer,
-                                acks-to=ADDRESS, note=TEXT, ask=TEXT, resend, close, terminate, and as=IDENTIFIER, from
-                                which on the sequence goes by that
+                                acks-to=ADDRESS, note=TEXT, ask=TEXT, pause=MS, resend, close, terminate, and
+                                as=IDENTIFIER, from which on the sequence goes by that
    peer server PORT COUNT [WORD]  takes COUNT connections, and prints each message that it is given, in order; with a
                                 third word a message is answered with one of the application's own
 
@@ -97,6 +97,8 @@ static int step(struct soap *soap, soap_wsrm_sequence_handle *seq, char *to, cha
         (*seq)->id = word + 3;
         return SOAP_OK;
     }
+    if (!strncmp(word, "pause=", 6))
+        return usleep(1000 * atoi(word + 6));
     if (!strcmp(word, "resend"))
         return soap_wsrm_resend(soap, *seq, 0, 0);
     if (!strcmp(word, "close"))
