@@ -209,7 +209,7 @@ class Bridged:
     """Node 1, which sends what stands in the outbox, node 2, which receives it, and a bridge for each."""
 
     def __init__(self, room, script):
-        room.mkdir(exist_ok=True)
+        room.mkdir(parents=True, exist_ok=True)
         self.room, self.script, self.database = room, script, kit.Database(room)
         self.database.ask((kit.BRIDGE / "bridge.sql").read_text())
         self.nodes = {it: Node(room, it, OTHERS + it) for it in (1, 2)}
@@ -465,7 +465,7 @@ def mirror(room, _):
         node.down()
         after = numbers(node)
         missing = acked - set(have)
-        tell(f"round {turn + 1}: accepted {len(accepted)}, acknowledged {len(acked)}, of which {len(missing)} are not at B; "
-             f"at the end {len(after)} are there", not missing and after == accepted)
+        tell(f"round {turn + 1}: accepted {len(accepted)}, acknowledged {len(acked)}, of these not at B {len(missing)}, "
+             f"there at the end {len(after)}", not missing and after == accepted)
         both.resync()
     sender.down()
