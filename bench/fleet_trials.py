@@ -293,14 +293,19 @@ def played(room, script, kills):
 
 
 def bridge(room, asked):
-    lost, twice, exactly, rows = played(room, kit.BRIDGE / "bridge.py", asked.kills)
+    lost, twice, exactly, rows = played(room, other_script(room, "bridge.py"), asked.kills)
     tell(f"the bridge: of {rows} rows lost {lost}, twice {twice}, {'' if exactly else 'not '}in order", exactly)
 
 
-def wrong_script(room, name, *changes):
-    """The bridge with other lines."""
+# Where the bridge waits, so that a kill comes between two of its steps.
+SLOW = [("    comes = [int(it)", "    time.sleep(0.05)\n    comes = [int(it)"),
+        ("    # Only what is in the database", "    time.sleep(0.05)\n    # Only what is in the database")]
+
+
+def other_script(room, name, *changes):
+    """The bridge with waits, and with other lines."""
     script = (kit.BRIDGE / "bridge.py").read_text()
-    for old, new in changes:
+    for old, new in [*SLOW, *changes]:
         if script.count(old) != 1:
             raise SystemExit(f"bench: bridge.py has not the one text {old!r}")
         script = script.replace(old, new)
@@ -312,17 +317,17 @@ CURSOR_FIRST = """        upto = int(items[-1][2])
         db.execute("insert into wsrm_cursor values (%s, %s, %s) on conflict (node, seq) do update "
                    "set number = excluded.number", (NODE, seq, upto))
         ask("POST", f"/consume/{seq}?upto={upto}")
-        time.sleep(0.1)
+        time.sleep(0.05)
         with db.transaction():
 """
 
 
 def bridges(room, asked):
     stops(room / "stops")
-    plain = wrong_script(room, "without_numbers.py", ("&seq={seq}&number={number}", ""))
+    plain = other_script(room, "without_numbers.py", ("&seq={seq}&number={number}", ""))
     lost, twice, _, rows = played(room / "plain", plain, asked.kills)
     tell(f"without seq and number: of {rows} rows lost {lost}, twice {twice}: it has some twice", twice > 0)
-    early = wrong_script(room, "cursor_first.py", ("        with db.transaction():\n", CURSOR_FIRST))
+    early = other_script(room, "cursor_first.py", ("        with db.transaction():\n", CURSOR_FIRST))
     lost, twice, _, rows = played(room / "early", early, asked.kills)
     tell(f"cursor before rows: of {rows} rows lost {lost}, twice {twice}: it loses some", lost > 0)
 
@@ -341,7 +346,7 @@ def stops(room):
     bridged.adds(1)
     until(lambda: bridged.count("wsrm_outbox where refused is not null") == 1, 10)
     seen = bridged.database.ask("select id, sent, refused from wsrm_outbox order by id")
-    tell(f"a row that is no XML holds up its partner: {seen}", len(seen) == 3 and seen[0].startswith("5|f|422"))
+    tell(f"a row that is no XML holds up its partner: {seen}", len(seen) == 2 and seen[0].startswith("5|f|422"))
     bridged.database.ask("delete from wsrm_outbox where id = 5")
     tell("and is passed once it is deleted", bridged.ends() == [1, 2, 3, 4, 5, 6])
     bridged.down()
@@ -381,7 +386,7 @@ class Mirror:
     """The disk of machine A, each write of which is on its own image and on that of machine B before it returns."""
 
     def __init__(self, room):
-        self.room, self.host, self.port = room, "127.0.0.3", OTHERS + 9
+        self.room, self.host, self.port, self.loop = room, "127.0.0.3", OTHERS + 9, "/dev/null"
         for name in ("a", "b"):
             with open(room / f"{name}.img", "wb") as file:
                 file.truncate(64 << 20)
@@ -433,8 +438,16 @@ class Mirror:
 def mirror(room, _):
     """8 times: machine A is killed within a message, its node and its disk; B goes on with its own image."""
     kit.needs("qemu-storage-daemon", "qemu-system-common")
-    both, sender, node = Mirror(room), Node(room, 1, OTHERS + 1), None
-    sender.up()
+    both, sender = Mirror(room), Node(room, 1, OTHERS + 1).up()
+    try:
+        rounds(both, sender)
+    finally:
+        kit.kill_all()
+        both.unmounted()
+
+
+def rounds(both, sender):
+    node = None
     accepted, to = [], f"http://127.0.0.1:{OTHERS + 2}/"
     for turn in range(8):
         place = both.up()
@@ -468,4 +481,3 @@ def mirror(room, _):
         tell(f"round {turn + 1}: accepted {len(accepted)}, acknowledged {len(acked)}, of these not at B {len(missing)}, "
              f"there at the end {len(after)}", not missing and after == accepted)
         both.resync()
-    sender.down()

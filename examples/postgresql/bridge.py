@@ -105,7 +105,7 @@ def give(db, partner):
     elif comes:
         stop(f"{comes} comes next to {partner}, and not {noted}")
     elif status in FOR_GOOD:
-        db.execute("update wsrm_outbox set refused = %s where id = %s", (f"{status} {text}", row))
+        db.execute("update wsrm_outbox set refused = %s where id = %s", (f"{status} {text}".strip(), row))
     return status in (200, 412, *FOR_GOOD)
 
 
