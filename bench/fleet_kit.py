@@ -30,6 +30,7 @@ ANONYMOUS = f"{ADDRESSING}/anonymous"
 programs = {}
 wrong = []
 running = []
+databases = []
 
 
 def tell(what, holds):
@@ -68,6 +69,8 @@ def killed(process):
 def kill_all():
     for it in list(running):
         killed(it)
+    for it in list(databases):
+        it.down("immediate")
 
 
 class Node:
@@ -254,8 +257,10 @@ class Database:
     def up(self):
         self.does("pg_ctl", "-D", self.room / "pg", "-w", "-l", self.room / "log", "-o",
                   f"-p {DATABASE} -k {self.room} -c listen_addresses=''", "start")
+        databases.append(self)
 
     def down(self, how):
+        databases.remove(self)
         self.does("pg_ctl", "-D", self.room / "pg", "-w", "-m", how, "stop")
 
     def ask(self, text):

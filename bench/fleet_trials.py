@@ -478,6 +478,6 @@ def rounds(both, sender):
         node.down()
         after = numbers(node)
         missing = acked - set(have)
-        tell(f"round {turn + 1}: accepted {len(accepted)}, acknowledged {len(acked)}, of these not at B {len(missing)}, "
+        tell(f"round {turn + 1}: accepted {len(accepted)}, acknowledged {len(acked)}, not at B {len(missing)}, "
              f"there at the end {len(after)}", not missing and after == accepted)
         both.resync()
